@@ -8,28 +8,28 @@ use Rattle.adjust.specs.declared.Moved.{Moved}
 use Rattle.adjust.specs.declared.Adjustment.{Adjustment}
 
 -- "An unspecified or immediate time stays so."
-abbrev pub movedBy : ℕ → SpliceTime → SpliceTime
-movedBy a Immediate = Immediate
-movedBy a Unspecified = Unspecified
-movedBy a (At t) = At ((t + a) % 8589934592)
+abbrev pub moved_by : ℕ → SpliceTime → SpliceTime
+moved_by a Immediate = Immediate
+moved_by a Unspecified = Unspecified
+moved_by a (At t) = At ((t + a) % 8589934592)
 
 -- "Refusals: 32 for a number of 2^33 or more."
-unfoldable pub adjustOf : SpliceTime → ℕ → Moved
-adjustOf t a =
+unfoldable pub adjust_of : SpliceTime → ℕ → Moved
+adjust_of t a =
     pick (ltb a (2 ^ 33))
-    (pick (ltb (ticks t) (2 ^ 33)) (Moved.Is (movedBy a t)) Moved.TooLarge)
+    (pick (ltb (ticks t) (2 ^ 33)) (Moved.Is (moved_by a t)) Moved.TooLarge)
     Moved.TooLarge
 
 -- "adjusting by a and then by b is proved equal to adjusting once by the remainder of a + b"
-unfoldable pub chainOf : ℕ → ℕ → Adjustment
-chainOf a b =
+unfoldable pub chain_of : ℕ → ℕ → Adjustment
+chain_of a b =
     pick (ltb a (2 ^ 33))
     (pick (ltb b (2 ^ 33)) (Adjustment.Is ((a + b) % 8589934592)) Adjustment.TooLarge)
     Adjustment.TooLarge
 
 -- "each adjustment has one that takes it back"
-unfoldable pub undoOf : ℕ → Adjustment
-undoOf a = pick (ltb a (2 ^ 33)) (Adjustment.Is ((8589934592 - a) % 8589934592)) Adjustment.TooLarge
+unfoldable pub undo_of : ℕ → Adjustment
+undo_of a = pick (ltb a (2 ^ 33)) (Adjustment.Is ((8589934592 - a) % 8589934592)) Adjustment.TooLarge
 
 -- 02's number of what is refused, 0 of what is not
 abbrev pub number_of : Moved → ℕ

@@ -1,12 +1,12 @@
 -- What the theorems on chains speak of: an adjustment after another, a chain of any length, and the orders of one.
 use Rattle.std.specs.Prelude.{ℕ, ◌+◌, ◌^◌, ◌<◌, List, [], ◌∷◌}
 use Rattle.splice_time.specs.declared.SpliceTime.{SpliceTime}
-use Rattle.adjust.specs.Adjust.{adjustOf}
+use Rattle.adjust.specs.Adjust.{adjust_of}
 use Rattle.adjust.specs.declared.Moved.{Moved}
 
 -- what was moved, moved again; a refusal stands
 abbrev pub and_then : Moved → ℕ → Moved
-and_then (Moved.Is t) b = adjustOf t b
+and_then (Moved.Is t) b = adjust_of t b
 and_then Moved.TooLarge b = Moved.TooLarge
 
 -- a time through each box of a chain in turn

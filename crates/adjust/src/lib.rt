@@ -1,6 +1,6 @@
 // Adjustments in a chain: a time moved by an adjustment, two adjustments as one, and the one that takes another back. Each is a number of 33 bits.
 ghost use Rattle.std.specs.Prelude.{◌≡◌};
-ghost use Rattle.adjust.specs.Adjust.{adjustOf, chainOf, undoOf};
+ghost use Rattle.adjust.specs.Adjust.{adjust_of, chain_of, undo_of};
 
 use splice_time::SpliceTime;
 
@@ -20,7 +20,7 @@ pub enum Adjustment {
 
 // The time moved by the adjustment; one that is not specified stays as it is.
 pub fn adjust(time: SpliceTime, adjustment: u64) -> Moved
-    ensures { result ≡ adjustOf time adjustment }
+    ensures { result ≡ adjust_of time adjustment }
 {
     if 0x1_FFFF_FFFF < adjustment {
         return Moved::TooLarge;
@@ -39,7 +39,7 @@ pub fn adjust(time: SpliceTime, adjustment: u64) -> Moved
 
 // The one adjustment that does what a and then b do.
 pub fn chain(a: u64, b: u64) -> Adjustment
-    ensures { result ≡ chainOf a b }
+    ensures { result ≡ chain_of a b }
 {
     if 0x1_FFFF_FFFF < a {
         return Adjustment::TooLarge;
@@ -52,7 +52,7 @@ pub fn chain(a: u64, b: u64) -> Adjustment
 
 // The adjustment that takes a back.
 pub fn undo(a: u64) -> Adjustment
-    ensures { result ≡ undoOf a }
+    ensures { result ≡ undo_of a }
 {
     if 0x1_FFFF_FFFF < a {
         return Adjustment::TooLarge;

@@ -3,10 +3,10 @@ use Rattle.std.specs.Prelude.{ℕ, List}
 use Rattle.header.specs.declared.header.SpliceInfoHeader.{SpliceInfoHeader}
 use Rattle.section.specs.declared.Section.{Section}
 use Rattle.table.specs.Writing.{Made, made, refused}
-use Rattle.adjust_section.specs.Adjusted.{adjustedSection}
+use Rattle.adjust_section.specs.Adjusted.{adjusted_section}
 
-abbrev pub headerWith : ℕ → SpliceInfoHeader → SpliceInfoHeader
-headerWith p h = record {
+abbrev pub header_with : ℕ → SpliceInfoHeader → SpliceInfoHeader
+header_with p h = record {
   protocol_version = h.protocol_version;
   encrypted_packet = h.encrypted_packet;
   encryption_algorithm = h.encryption_algorithm;
@@ -18,10 +18,10 @@ headerWith p h = record {
 }
 
 -- the same reading but for the header's pts_adjustment
-abbrev pub readingWith : ℕ → Section → Section
-readingWith p x = record { header = headerWith p x.header; command = x.command; descriptors = x.descriptors; payload = x.payload }
+abbrev pub reading_with : ℕ → Section → Section
+reading_with p x = record { header = header_with p x.header; command = x.command; descriptors = x.descriptors; payload = x.payload }
 
 -- what came out of one box, through the next; a refusal stands
 abbrev pub and_then : Made → ℕ → Made
-and_then (made s) b = adjustedSection s b
+and_then (made s) b = adjusted_section s b
 and_then (refused n) b = refused n

@@ -1,7 +1,7 @@
 // The single box: a section whose pts_adjustment is moved, its CRC mended, and no other byte changed.
 ghost use Rattle.std.specs.Prelude.{◌≡◌, ◌+◌, ◌^◌, ◌≤◌, ◌<◌, length};
-ghost use Rattle.adjust_section.specs.Adjusted.{sectionWith, adjustedSection};
-ghost use Rattle.bit_stores.specs.Written.{answer_of, laterOf};
+ghost use Rattle.adjust_section.specs.Adjusted.{section_with, adjusted_section};
+ghost use Rattle.bit_stores.specs.Written.{answer_of, later_of};
 ghost use Rattle.table.specs.Lent.{stored};
 
 use bit_stores::Written;
@@ -13,7 +13,7 @@ use table::store::{put_bytes, put_number};
 // The section with p as its pts_adjustment, from the target's first byte on.
 fn put_section(target: &mut [u8], section: &[u8], p: u64)
     requires { (p < 2 ^ 33) × (18 ≤ length section.now) × (length section.now ≤ 4096) × (length section.now ≤ length target.old) }
-    ensures { target.new ≡ stored target.old 0 (sectionWith p section.now) }
+    ensures { target.new ≡ stored target.old 0 (section_with p section.now) }
 {
     let end = section.len() - 4;
     put_bytes(target, 0, &section[0..4]);
@@ -25,8 +25,8 @@ fn put_section(target: &mut [u8], section: &[u8], p: u64)
 
 // The section with its pts_adjustment moved by `adjustment`, from the target's first byte on; or a refusal: 1 to 11 for the section, 32, 36.
 pub fn adjust_section(section: &[u8], adjustment: u64, target: &mut [u8]) -> Written
-    ensures answer { result ≡ answer_of (adjustedSection section.now adjustment) target.old }
-    ensures bytes { target.new ≡ laterOf (adjustedSection section.now adjustment) target.old }
+    ensures answer { result ≡ answer_of (adjusted_section section.now adjustment) target.old }
+    ensures bytes { target.new ≡ later_of (adjusted_section section.now adjustment) target.old }
 {
     match read_section(section) {
         SectionRead::Is(_) => {}

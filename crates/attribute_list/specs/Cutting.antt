@@ -1,8 +1,8 @@
--- How a line is cut into attributes, from its start on. `cut-exactly` in proofs/Theorems.antt: it finds the list of `Line` exactly where there is one.
+-- How a line is cut into attributes, from its start on. `cut_exactly` in proofs/Theorems.antt: it finds the list of `Line` exactly where there is one.
 use Rattle.std.specs.Prelude.{ℕ, zero, suc, ◌+◌, Bool, true, false, not, ◌&&◌, List, [], ◌∷◌, eqb, length, take, drop, get_or}
 use Rattle.std.proofs.Math.Option.{Option, none, some}
 use Rattle.table.specs.Bits.{pick}
-use Rattle.attribute_list.specs.Grammar.{nameByte, quotedByte, plain_byte, Value, quoted, plain, Attribute, tag}
+use Rattle.attribute_list.specs.Grammar.{name_byte, quoted_byte, plain_byte, Value, quoted, plain, Attribute, tag}
 use Rattle.attribute_list.specs.declared.bytes.Class.{Class}
 use Rattle.attribute_list.specs.declared.bytes.Class.TheVariants as class
 use Rattle.attribute_list.specs.declared.cutting.Cut.{Cut}
@@ -15,8 +15,8 @@ span p (x ∷ xs) = pick (p x) (suc (span p xs)) 0
 
 -- the test of each kind of run
 abbrev pub test_of : Class → ℕ → Bool
-test_of class.Name = nameByte
-test_of class.Quoted = quotedByte
+test_of class.Name = name_byte
+test_of class.Quoted = quoted_byte
 test_of class.Plain = plain_byte
 
 -- the same bytes
@@ -32,9 +32,9 @@ closed [] = true
 closed (x ∷ xs) = eqb x 0x2C
 
 -- a quoted value, and an unquoted one, behind a name of n bytes
-abbrev pub quotedOf : ℕ → List ℕ → Cut
-quotedOf n v =
-    let k : ℕ = span quotedByte v in
+abbrev pub quoted_of : ℕ → List ℕ → Cut
+quoted_of n v =
+    let k : ℕ = span quoted_byte v in
     pick (eqb (get_or v k 0) 0x22 && closed (drop (k + 1) v)) (Is n true k) Nothing
 
 abbrev pub plain_of : ℕ → List ℕ → Cut
@@ -45,41 +45,41 @@ plain_of n v =
 -- the attribute that a text begins with: the lengths of its name and of its value
 unfoldable pub cut_of : List ℕ → Cut
 cut_of s =
-    let n : ℕ = span nameByte s in
+    let n : ℕ = span name_byte s in
     let v : List ℕ = drop (n + 1) s in
     pick (not (eqb n 0) && eqb (get_or s n 0) 0x3D)
-    (pick (eqb (get_or v 0 0) 0x22) (quotedOf n (drop 1 v)) (plain_of n v))
+    (pick (eqb (get_or v 0 0) 0x22) (quoted_of n (drop 1 v)) (plain_of n v))
     Nothing
 
 -- where its value begins, and where it ends
-abbrev pub valueFrom : ℕ → Bool → ℕ
-valueFrom n q = n + pick q 2 1
+abbrev pub value_from : ℕ → Bool → ℕ
+value_from n q = n + pick q 2 1
 
 abbrev pub end_of : ℕ → Bool → ℕ → ℕ
-end_of n q k = valueFrom n q + k + pick q 1 0
+end_of n q k = value_from n q + k + pick q 1 0
 
-abbrev pub valueIn : Bool → List ℕ → Value
-valueIn true b = quoted b
-valueIn false b = plain b
+abbrev pub value_in : Bool → List ℕ → Value
+value_in true b = quoted b
+value_in false b = plain b
 
-abbrev pub attributeIn : List ℕ → ℕ → Bool → ℕ → Attribute
-attributeIn s n q k = record { name = take n s; value = valueIn q (take k (drop (valueFrom n q) s)) }
+abbrev pub attribute_in : List ℕ → ℕ → Bool → ℕ → Attribute
+attribute_in s n q k = record { name = take n s; value = value_in q (take k (drop (value_from n q) s)) }
 
 abbrev pub consed : Attribute → Option (List Attribute) → Option (List Attribute)
 consed a none = none
 consed a (some l) = some (a ∷ l)
 
 -- the attributes from a cut on; `more` are those of what stands behind its comma
-abbrev pub attributesBy : (List ℕ → Option (List Attribute)) → List ℕ → Cut → Option (List Attribute)
-attributesBy more s Nothing = none
-attributesBy more s (Is n q k) =
-    pick (eqb (length (drop (end_of n q k) s)) 0) (some (attributeIn s n q k ∷ []))
-    (consed (attributeIn s n q k) (more (drop (end_of n q k + 1) s)))
+abbrev pub attributes_by : (List ℕ → Option (List Attribute)) → List ℕ → Cut → Option (List Attribute)
+attributes_by more s Nothing = none
+attributes_by more s (Is n q k) =
+    pick (eqb (length (drop (end_of n q k) s)) 0) (some (attribute_in s n q k ∷ []))
+    (consed (attribute_in s n q k) (more (drop (end_of n q k + 1) s)))
 
 -- the attributes of a text: n is any number over the count of its bytes, and says that this ends
-unfoldable pub attributesFrom : ℕ → List ℕ → Option (List Attribute)
-attributesFrom zero s = none
-attributesFrom (suc n) s = attributesBy (attributesFrom n) s (cut_of s)
+unfoldable pub attributes_from : ℕ → List ℕ → Option (List Attribute)
+attributes_from zero s = none
+attributes_from (suc n) s = attributes_by (attributes_from n) s (cut_of s)
 
-unfoldable pub attributesOf : List ℕ → Option (List Attribute)
-attributesOf line = pick (same (take 17 line) tag) (attributesFrom (length line) (drop 17 line)) none
+unfoldable pub attributes_of : List ℕ → Option (List Attribute)
+attributes_of line = pick (same (take 17 line) tag) (attributes_from (length line) (drop 17 line)) none

@@ -1,6 +1,6 @@
 // Bytes by the grammar's sets, and runs of them.
 ghost use Rattle.std.specs.Prelude.{◌≡◌, ◌+◌, drop};
-ghost use Rattle.attribute_list.specs.Grammar.{nameByte, quotedByte, plain_byte};
+ghost use Rattle.attribute_list.specs.Grammar.{name_byte, quoted_byte, plain_byte};
 ghost use Rattle.attribute_list.specs.Cutting.{span, test_of, same};
 
 // The bytes of a name, between quotes, and of an unquoted value.
@@ -12,7 +12,7 @@ pub enum Class {
 }
 
 fn in_name(b: u8) -> bool
-    ensures { result ≡ nameByte b }
+    ensures { result ≡ name_byte b }
 {
     if 0x41 <= b {
         return b <= 0x5A;
@@ -24,7 +24,7 @@ fn in_name(b: u8) -> bool
 }
 
 fn in_quotes(b: u8) -> bool
-    ensures { result ≡ quotedByte b }
+    ensures { result ≡ quoted_byte b }
 {
     if b == 0x22 {
         return false;

@@ -1,6 +1,6 @@
 // The attribute at a place of a line.
 ghost use Rattle.std.specs.Prelude.{◌≡◌, drop, get_or};
-ghost use Rattle.attribute_list.specs.Cutting.{closed, quotedOf, plain_of, cut_of};
+ghost use Rattle.attribute_list.specs.Cutting.{closed, quoted_of, plain_of, cut_of};
 
 use crate::bytes::{Class, past};
 
@@ -30,7 +30,7 @@ fn is_closed(line: &[u8], at: usize) -> bool
 
 // A value behind its opening quote.
 fn quoted_at(line: &[u8], at: usize, name: usize) -> Cut
-    ensures { result ≡ quotedOf name (drop at line.now) }
+    ensures { result ≡ quoted_of name (drop at line.now) }
 {
     let end = past(line, at, Class::Quoted);
     if line.len() <= end {

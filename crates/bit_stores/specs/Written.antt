@@ -3,8 +3,8 @@
 use Rattle.std.specs.Prelude.{ℕ, List, ◌++◌, leb, length, drop}
 use Rattle.table.specs.Bits.{pick}
 use Rattle.table.specs.Writing.{Made, made, refused}
-pub use Rattle.table.specs.Writing.{refusalIn}
-unfoldable pub use Rattle.table.specs.Writing.{bytesIn}
+pub use Rattle.table.specs.Writing.{refusal_in}
+unfoldable pub use Rattle.table.specs.Writing.{bytes_in}
 use Rattle.bit_stores.specs.declared.Written.{Written}
 
 -- refusal 36: "target shorter than the result"
@@ -12,6 +12,6 @@ unfoldable pub answer_of : Made → List ℕ → Written
 answer_of (made b) target = pick (leb (length b) (length target)) (Written.Wrote (length b)) (Written.Refused 36)
 answer_of (refused n) target = Written.Refused n
 
-unfoldable pub laterOf : Made → List ℕ → List ℕ
-laterOf (made b) target = pick (leb (length b) (length target)) (b ++ drop (length b) target) target
-laterOf (refused n) target = target
+unfoldable pub later_of : Made → List ℕ → List ℕ
+later_of (made b) target = pick (leb (length b) (length target)) (b ++ drop (length b) target) target
+later_of (refused n) target = target

@@ -1,7 +1,7 @@
 // The writer's pen: fields stored at any bit of a lent target, and what a writer answers.
 ghost use Rattle.std.specs.Prelude.{◌≡◌, ◌+◌, ◌-◌, ◌*◌, ◌/◌, ◌%◌, ◌^◌, ◌<◌, ◌≤◌};
 ghost use Rattle.bit_stores.specs.Private.{Fits, with_bits};
-ghost use Rattle.table.specs.Bits.{bitsOfNum, bits_of, AllBytes};
+ghost use Rattle.table.specs.Bits.{bits_of_num, bits_of, AllBytes};
 ghost use Rattle.table.proofs.Steppings.{Settled};
 ghost use Rattle.bit_stores.specs.Pen.{Pens};
 
@@ -47,7 +47,7 @@ fn with_bits(b: u8, j: usize, n: usize, x: u64) -> u8
 
 // A field at any bit, byte by byte.
 fn put_across(out: &mut [u8], c: Cursor, w: usize, v: u64) -> Cursor
-    ensures { Pens out.old c (bitsOfNum w v) out.new result }
+    ensures { Pens out.old c (bits_of_num w v) out.new result }
 {
     let byte = c.byte;
     let bit = c.bit;
@@ -79,7 +79,7 @@ fn put_across(out: &mut [u8], c: Cursor, w: usize, v: u64) -> Cursor
 
 // A field of n bytes, where a byte begins.
 fn put_aligned(out: &mut [u8], at: usize, n: usize, v: u64) -> Cursor
-    ensures { Pens out.old (record { byte = at; bit = 0 }) (bitsOfNum (n * 8) v) out.new result }
+    ensures { Pens out.old (record { byte = at; bit = 0 }) (bits_of_num (n * 8) v) out.new result }
 {
     if out.len() < at {
         return Cursor { byte: at, bit: 0 };
@@ -96,7 +96,7 @@ fn put_aligned(out: &mut [u8], at: usize, n: usize, v: u64) -> Cursor
 
 // The low w bits of a number, from a cursor on. What does not fit is not stored, and the cursor stays.
 pub fn put_bits(out: &mut [u8], c: Cursor, w: usize, v: u64) -> Cursor
-    ensures { Pens out.old c (bitsOfNum w v) out.new result }
+    ensures { Pens out.old c (bits_of_num w v) out.new result }
 {
     if c.bit == 0 {
         if w % 8 == 0 {

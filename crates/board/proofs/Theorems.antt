@@ -2,9 +2,9 @@
 use Rattle.std.proofs.Common.{◌≡◌, ℕ, suc, ◌+◌, ◌%◌, ◌<◌, ◌≤◌, Bool, true, false, not, ◌&&◌, eqb, leb, List, [], ◌∷◌, ◌++◌, length, get_or, set, sym, refl, ap, ◌∙◌, ap₂, append-nil, arith, length-set, eq-eqb, ne_eqb, le-leb, leb-false, leb-true}
 use borrow.Author.Tests.{lt-leb}
 use contract.Lifetimes.{Lfts}
-use Rattle.board.specs.Breaks.{Break, Breaks, noBreaks, under, isOpen, providerOf, freeFrom, after}
-use Rattle.board.specs.Board.{blankPlace, takenBy, emptyBoard, isFree, holds, before, breaksOf, asFound, openOf, closeOf}
-use Rattle.board.specs.Runs.{Call, step_of, toldOf, listAnswers}
+use Rattle.board.specs.Breaks.{Break, Breaks, no_breaks, under, is_open, provider_of, free_from, after}
+use Rattle.board.specs.Board.{blank_place, taken_by, empty_board, is_free, holds, before, breaks_of, as_found, open_of, close_of}
+use Rattle.board.specs.Runs.{Call, step_of, told_of, list_answers}
 use Rattle.board.specs.Runs.Call.{opening, closing}
 use Rattle.board.specs.Calls.{Typed, held, Given, Opened, Closed, Run, leaves}
 use Rattle.board.specs.Calls.Run.{nothing, then}
@@ -15,128 +15,128 @@ use Rattle.board.specs.declared.Refusal.TheVariants.{BoardFull, NotOpen}
 use Rattle.board.specs.declared.Board.{Board}
 use Rattle.board.specs.declared.Step.{Step}
 use Rattle.board.proofs.empty.Reads as empty
-use Rattle.board.proofs.open_break.Reads as open-break
-use Rattle.board.proofs.close_break.Reads as close-break
-use Rattle.board.proofs.Lists.{nothing-under, under-without, length_without}
-use Rattle.board.proofs.Places.{has-free, first-free, closed-place, broken, opened-many, opened-each}
-use Rattle.board.proofs.Fresh.{onward, Search, searched, few-passed, given-free, after-fits}
-use Rattle.board.proofs.Reading.{Reads, Agrees, call-agrees, empty-reads}
+use Rattle.board.proofs.open_break.Reads as open_break
+use Rattle.board.proofs.close_break.Reads as close_break
+use Rattle.board.proofs.Lists.{nothing_under, under_without, length_without}
+use Rattle.board.proofs.Places.{has_free, first_free, closed_place, broken, opened_many, opened_each}
+use Rattle.board.proofs.Fresh.{onward, Search, searched, few_passed, given_free, after_fits}
+use Rattle.board.proofs.Reading.{Reads, Agrees, call_agrees, empty_reads}
 
 -- ---- what the contracts allow
 
 module _ (κ : Lfts 0) where
   abbrev pub Does : Call → Board → Step → Type 0
-  Does (opening provider) b s = open-break.Learnt κ (b, (provider, tt)) s (b, (provider, tt))
-  Does (closing id) b s = close-break.Learnt κ (b, (id, tt)) s (b, (id, tt))
+  Does (opening provider) b s = open_break.Learnt κ (b, (provider, tt)) s (b, (provider, tt))
+  Does (closing id) b s = close_break.Learnt κ (b, (id, tt)) s (b, (id, tt))
 
-  does-one : (c : Call) (b : Board) (s : Step) → Does c b s → s ≡ step_of c b
-  does-one (opening provider) b s d = d
-  does-one (closing id) b s d = d
+  does_one : (c : Call) (b : Board) (s : Step) → Does c b s → s ≡ step_of c b
+  does_one (opening provider) b s d = d
+  does_one (closing id) b s d = d
 
 -- ---- "Over any calls from an empty board the answers are those of a plain list of open breaks with a next id"
 
-run-agrees : (κ : Lfts 0) (calls : List Call) (b : Board) (l : Breaks) (heard : List Answer) (z : Board) → Reads b l → Run (Does κ) b calls heard z → heard ≡ listAnswers 32 calls l
-unfolding listAnswers
-run-agrees κ [] b l [] z r nothing = refl
-run-agrees κ (c ∷ cs) b l (a ∷ heard) z r (then s d w) =
-    let g : Agrees (step_of c b) (toldOf 32 c l).answer (toldOf 32 c l).breaks = call-agrees c b l r in
-    let e : s ≡ step_of c b = does-one κ c b s d in
+run_agrees : (κ : Lfts 0) (calls : List Call) (b : Board) (l : Breaks) (heard : List Answer) (z : Board) → Reads b l → Run (Does κ) b calls heard z → heard ≡ list_answers 32 calls l
+unfolding list_answers
+run_agrees κ [] b l [] z r nothing = refl
+run_agrees κ (c ∷ cs) b l (a ∷ heard) z r (then s d w) =
+    let g : Agrees (step_of c b) (told_of 32 c l).answer (told_of 32 c l).breaks = call_agrees c b l r in
+    let e : s ≡ step_of c b = does_one κ c b s d in
     ap₂ (λ (x : Answer) (xs : List Answer). x ∷ xs) (ap (λ (x : Step). x.answer) e ∙ g.answers)
-    (run-agrees κ cs s.board (toldOf 32 c l).breaks heard z (rw e g.reads) w)
+    (run_agrees κ cs s.board (told_of 32 c l).breaks heard z (rw e g.reads) w)
 
-pub board-is-the-list : (κ : Lfts 0) (calls : List Call) (b : Board) (heard : List Answer) (z : Board) → empty.Learnt κ tt b tt → Run (Does κ) b calls heard z → heard ≡ listAnswers 32 calls noBreaks
-board-is-the-list κ calls b heard z e w = run-agrees κ calls b noBreaks heard z (rw e empty-reads) w
+pub board_is_the_list : (κ : Lfts 0) (calls : List Call) (b : Board) (heard : List Answer) (z : Board) → empty.Learnt κ tt b tt → Run (Does κ) b calls heard z → heard ≡ list_answers 32 calls no_breaks
+board_is_the_list κ calls b heard z e w = run_agrees κ calls b no_breaks heard z (rw e empty_reads) w
 
 -- ---- "Ids count up .. and an id still open is passed over"
 
-given : (limit : ℕ) (bs : List Break) (next : ℕ) → next < 4294967296 → limit ≤ 4294967296 → length bs < limit → Given bs next (freeFrom limit bs next)
+given : (limit : ℕ) (bs : List Break) (next : ℕ) → next < 4294967296 → limit ≤ 4294967296 → length bs < limit → Given bs next (free_from limit bs next)
 given limit bs next f m h =
     let s : Search limit bs next = searched limit bs next f in
-    record { by = s.by; few = few-passed limit bs next f h m s; at = s.at; passed = s.passed; free = given-free limit bs next f h m }
+    record { by = s.by; few = few_passed limit bs next f h m s; at = s.at; passed = s.passed; free = given_free limit bs next f h m }
 
 -- ---- an opening, on any board: "61 open exactly when 32 are open"; "both leave the board as found"
 
 module _ (κ : Lfts 0) (b : Board) (provider : ℕ) (s : Step) (d : Does κ (opening provider) b s) where
-  pub open-61 : 32 ≤ length (held b) → s ≡ asFound BoardFull b
-  unfolding openOf
-  open-61 h = d ∙ rw (le-leb 32 (length (held b)) h)
+  pub open_61 : 32 ≤ length (held b) → s ≡ as_found BoardFull b
+  unfolding open_of
+  open_61 h = d ∙ rw (le-leb 32 (length (held b)) h)
 
-  pub opens : Typed b → length (held b) < 32 → Opened b provider (freeFrom 32 (held b) b.next) s
-  unfolding openOf under
+  pub opens : Typed b → length (held b) < 32 → Opened b provider (free_from 32 (held b) b.next) s
+  unfolding open_of under
   opens t h = rw (d, lt-leb 32 (length (held b)) h) (record { answer = refl; given = first; now = alone; others = other; many = more; next = refl })
     where
       id : ℕ
-      id = freeFrom 32 (held b) b.next
+      id = free_from 32 (held b) b.next
 
       at : ℕ
-      at = before isFree b.places
+      at = before is_free b.places
 
       first : Given (held b) b.next id
       first = given 32 (held b) b.next t.next (omega arith) h
 
       room : at < length b.places
-      room = has-free b.places (omega (arith, t.places))
+      room = has_free b.places (omega (arith, t.places))
 
-      free : (get_or b.places at blankPlace).used ≡ false
-      free = first-free b.places blankPlace room
+      free : (get_or b.places at blank_place).used ≡ false
+      free = first_free b.places blank_place room
 
-      each : (k : ℕ) → under k (breaksOf (set b.places at (takenBy id provider))) ≡ under k (held b) ++ under k (broken id provider ∷ [])
-      each k = opened-each id provider k b.places at blankPlace room free first.free
+      each : (k : ℕ) → under k (breaks_of (set b.places at (taken_by id provider))) ≡ under k (held b) ++ under k (broken id provider ∷ [])
+      each k = opened_each id provider k b.places at blank_place room free first.free
 
-      alone : under id (breaksOf (set b.places at (takenBy id provider))) ≡ provider ∷ []
+      alone : under id (breaks_of (set b.places at (taken_by id provider))) ≡ provider ∷ []
       alone = each id ∙ rw (first.free, eq-eqb id id refl)
 
-      other : (k : ℕ) → eqb id k ≡ false → under k (breaksOf (set b.places at (takenBy id provider))) ≡ under k (held b)
+      other : (k : ℕ) → eqb id k ≡ false → under k (breaks_of (set b.places at (taken_by id provider))) ≡ under k (held b)
       other k n = each k ∙ rw n (append-nil (under k (held b)))
 
-      more : length (breaksOf (set b.places at (takenBy id provider))) ≡ suc (length (held b))
-      more = opened-many id provider b.places at blankPlace room free
+      more : length (breaks_of (set b.places at (taken_by id provider))) ≡ suc (length (held b))
+      more = opened_many id provider b.places at blank_place room free
 
 -- ---- a closing, on any board: "62 close exactly when the id isn't open"
 
 module _ (κ : Lfts 0) (b : Board) (id : ℕ) (s : Step) (d : Does κ (closing id) b s) where
-  pub close-62 : isOpen id (held b) ≡ false → s ≡ asFound NotOpen b
-  unfolding closeOf
-  close-62 h = d ∙ rw h
+  pub close_62 : is_open id (held b) ≡ false → s ≡ as_found NotOpen b
+  unfolding close_of
+  close_62 h = d ∙ rw h
 
-  pub closes : isOpen id (held b) ≡ true → Closed b id s
-  unfolding closeOf
+  pub closes : is_open id (held b) ≡ true → Closed b id s
+  unfolding close_of
   closes h =
       rw (d, h)
       (record {
         answer = refl;
-        gone = rw (closed-place id b.places, under-without id id (held b), eq-eqb id id refl);
-        others = λ k n. rw (closed-place id b.places, under-without id k (held b), n);
-        many = rw (closed-place id b.places) (length_without id (held b) h);
+        gone = rw (closed_place id b.places, under_without id id (held b), eq-eqb id id refl);
+        others = λ k n. rw (closed_place id b.places, under_without id k (held b), n);
+        many = rw (closed_place id b.places) (length_without id (held b) h);
         next = refl;
       })
 
 -- ---- a break from its opening to its closing, over any calls between on any board
 
 typed : (κ : Lfts 0) (c : Call) (b : Board) (s : Step) → Typed b → Does κ c b s → Typed s.board
-unfolding openOf closeOf
+unfolding open_of close_of
 typed κ (opening provider) b s t d = go (leb 32 (length (held b))) refl
   where
     go : (f : Bool) → leb 32 (length (held b)) ≡ f → Typed s.board
     go true e = rw (d, e) t
-    go false e = rw (d, e) (record { places = simp length-set t.places; next = after-fits (freeFrom 32 (held b) b.next) })
-typed κ (closing id) b s t d = go (isOpen id (held b)) refl
+    go false e = rw (d, e) (record { places = simp length-set t.places; next = after_fits (free_from 32 (held b) b.next) })
+typed κ (closing id) b s t d = go (is_open id (held b)) refl
   where
-    go : (o : Bool) → isOpen id (held b) ≡ o → Typed s.board
+    go : (o : Bool) → is_open id (held b) ≡ o → Typed s.board
     go false e = rw (d, e) t
     go true e = rw (d, e) (record { places = simp length-set t.places; next = t.next })
 
 -- a break stands while no call closes it
-one-stands : (κ : Lfts 0) (c : Call) (b : Board) (s : Step) (id provider : ℕ) → Typed b → under id (held b) ≡ provider ∷ [] → leaves id (c ∷ []) ≡ true → Does κ c b s → under id (held s.board) ≡ provider ∷ []
+one_stands : (κ : Lfts 0) (c : Call) (b : Board) (s : Step) (id provider : ℕ) → Typed b → under id (held b) ≡ provider ∷ [] → leaves id (c ∷ []) ≡ true → Does κ c b s → under id (held s.board) ≡ provider ∷ []
 unfolding leaves
-one-stands κ (opening q) b s id provider t u n d = go (leb 32 (length (held b))) refl
+one_stands κ (opening q) b s id provider t u n d = go (leb 32 (length (held b))) refl
   where
     go : (f : Bool) → leb 32 (length (held b)) ≡ f → under id (held s.board) ≡ provider ∷ []
-    go true e = rw (open-61 κ b q s d (leb-true _ _ e)) u
+    go true e = rw (open_61 κ b q s d (leb-true _ _ e)) u
     go false e =
-        let o : Opened b q (freeFrom 32 (held b) b.next) s = opens κ b q s d t (leb-false _ _ e) in
-        o.others id (ne_eqb (freeFrom 32 (held b) b.next) id (λ x. absurd (omega (arith, ap length (rw x at o.given.free), ap length u)))) ∙ u
-one-stands κ (closing k) b s id provider t u n d = go (isOpen k (held b)) refl
+        let o : Opened b q (free_from 32 (held b) b.next) s = opens κ b q s d t (leb-false _ _ e) in
+        o.others id (ne_eqb (free_from 32 (held b) b.next) id (λ x. absurd (omega (arith, ap length (rw x at o.given.free), ap length u)))) ∙ u
+one_stands κ (closing k) b s id provider t u n d = go (is_open k (held b)) refl
   where
     other : eqb k id ≡ false
     other = go (eqb k id) n
@@ -145,23 +145,23 @@ one-stands κ (closing k) b s id provider t u n d = go (isOpen k (held b)) refl
         go true e = sym e
         go false e = refl
 
-    go : (o : Bool) → isOpen k (held b) ≡ o → under id (held s.board) ≡ provider ∷ []
-    go false e = rw (close-62 κ b k s d e) u
+    go : (o : Bool) → is_open k (held b) ≡ o → under id (held s.board) ≡ provider ∷ []
+    go false e = rw (close_62 κ b k s d e) u
     go true e = (closes κ b k s d e).others id other ∙ u
 
-left-first : (id : ℕ) (c : Call) (cs : List Call) → leaves id (c ∷ cs) ≡ true → leaves id (c ∷ []) ≡ true
+left_first : (id : ℕ) (c : Call) (cs : List Call) → leaves id (c ∷ cs) ≡ true → leaves id (c ∷ []) ≡ true
 unfolding leaves
-left-first id (opening q) cs n = refl
-left-first id (closing k) cs n = go (eqb k id) n
+left_first id (opening q) cs n = refl
+left_first id (closing k) cs n = go (eqb k id) n
   where
     go : (v : Bool) → not v && leaves id cs ≡ true → not v && true ≡ true
     go true e = e
     go false e = refl
 
-left-rest : (id : ℕ) (c : Call) (cs : List Call) → leaves id (c ∷ cs) ≡ true → leaves id cs ≡ true
+left_rest : (id : ℕ) (c : Call) (cs : List Call) → leaves id (c ∷ cs) ≡ true → leaves id cs ≡ true
 unfolding leaves
-left-rest id (opening q) cs n = n
-left-rest id (closing k) cs n = go (eqb k id) n
+left_rest id (opening q) cs n = n
+left_rest id (closing k) cs n = go (eqb k id) n
   where
     go : (v : Bool) → not v && leaves id cs ≡ true → leaves id cs ≡ true
     go true e = let x : false ≡ true = e in let y : ◌≡◌ {A = ℕ} 0 1 = cc in absurd (omega arith)
@@ -174,7 +174,7 @@ stands : (κ : Lfts 0) (calls : List Call) (b : Board) (heard : List Answer) (z 
     → Typed z × (under id (held z) ≡ provider ∷ [])
 stands κ [] b [] z id provider t u n nothing = (t, u)
 stands κ (c ∷ cs) b (a ∷ heard) z id provider t u n (then s d w) =
-    stands κ cs s.board heard z id provider (typed κ c b s t d) (one-stands κ c b s id provider t u (left-first id c cs n) d) (left-rest id c cs n) w
+    stands κ cs s.board heard z id provider (typed κ c b s t d) (one_stands κ c b s id provider t u (left_first id c cs n) d) (left_rest id c cs n) w
 
 module _ (κ : Lfts 0) (b : Board) (provider id : ℕ) (s : Step) (calls : List Call) (heard : List Answer) (z : Board) (t : Typed b)
     (d : Does κ (opening provider) b s) (i : s.answer ≡ Is id) (n : leaves id calls ≡ true) (w : Run (Does κ) s.board calls heard z) where
@@ -182,25 +182,25 @@ module _ (κ : Lfts 0) (b : Board) (provider id : ℕ) (s : Step) (calls : List 
   still = go (leb 32 (length (held b))) refl
     where
       go : (f : Bool) → leb 32 (length (held b)) ≡ f → Typed z × (under id (held z) ≡ provider ∷ [])
-      go true e = let x : Refused BoardFull ≡ Is id = rw (open-61 κ b provider s d (leb-true _ _ e)) at i in let y : ◌≡◌ {A = ℕ} 0 1 = cc in absurd (omega arith)
+      go true e = let x : Refused BoardFull ≡ Is id = rw (open_61 κ b provider s d (leb-true _ _ e)) at i in let y : ◌≡◌ {A = ℕ} 0 1 = cc in absurd (omega arith)
       go false e =
-          let o : Opened b provider (freeFrom 32 (held b) b.next) s = opens κ b provider s d t (leb-false _ _ e) in
-          let same : freeFrom 32 (held b) b.next ≡ id = is_one _ _ (sym o.answer ∙ i) in
+          let o : Opened b provider (free_from 32 (held b) b.next) s = opens κ b provider s d t (leb-false _ _ e) in
+          let same : free_from 32 (held b) b.next ≡ id = is_one _ _ (sym o.answer ∙ i) in
           stands κ calls s.board heard z id provider (typed κ (opening provider) b s t d) (rw same at o.now) n w
 
   -- closing gives back the provider id that the opening was given
-  pub closing-gives-the-provider-back : (x : Step) → Does κ (closing id) z x → x.answer ≡ Is provider
-  closing-gives-the-provider-back x e =
+  pub closing_gives_the_provider_back : (x : Step) → Does κ (closing id) z x → x.answer ≡ Is provider
+  closing_gives_the_provider_back x e =
       let u : under id (held z) ≡ provider ∷ [] = still.1 in
       (closes κ z id x e (rw u)).answer ∙ rw u
 
   -- an id is handed out again only after it was closed
-  pub an-open-id-is-not-given-again : (other : ℕ) (x : Step) → Does κ (opening other) z x → x.answer ≡ Is id → ⊥
-  an-open-id-is-not-given-again other x e j = go (leb 32 (length (held z))) refl
+  pub an_open_id_is_not_given_again : (other : ℕ) (x : Step) → Does κ (opening other) z x → x.answer ≡ Is id → ⊥
+  an_open_id_is_not_given_again other x e j = go (leb 32 (length (held z))) refl
     where
       go : (f : Bool) → leb 32 (length (held z)) ≡ f → ⊥
-      go true g = let x : Refused BoardFull ≡ Is id = rw (open-61 κ z other x e (leb-true _ _ g)) at j in let y : ◌≡◌ {A = ℕ} 0 1 = cc in absurd (omega arith)
+      go true g = let x : Refused BoardFull ≡ Is id = rw (open_61 κ z other x e (leb-true _ _ g)) at j in let y : ◌≡◌ {A = ℕ} 0 1 = cc in absurd (omega arith)
       go false g =
-          let o : Opened z other (freeFrom 32 (held z) z.next) x = opens κ z other x e still.0 (leb-false _ _ g) in
-          let same : freeFrom 32 (held z) z.next ≡ id = is_one _ _ (sym o.answer ∙ j) in
+          let o : Opened z other (free_from 32 (held z) z.next) x = opens κ z other x e still.0 (leb-false _ _ g) in
+          let same : free_from 32 (held z) z.next ≡ id = is_one _ _ (sym o.answer ∙ j) in
           absurd (omega (arith, ap length (rw same at o.given.free), ap length still.1))

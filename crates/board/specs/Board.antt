@@ -1,6 +1,6 @@
 -- What each function of the board answers, for any board, also one that no calls make.
 use Rattle.std.specs.Prelude.{ℕ, suc, Bool, true, false, cond as pick, not, ◌&&◌, List, [], ◌∷◌, length, replicate, ◌==◌, nat_le, slice_set}
-use Rattle.board.specs.Breaks.{Break, isOpen, providerOf, freeFrom, after}
+use Rattle.board.specs.Breaks.{Break, is_open, provider_of, free_from, after}
 use Rattle.board.specs.declared.Answer.TheVariants.{Is, Refused}
 use Rattle.board.specs.declared.Refusal.{Refusal}
 use Rattle.board.specs.declared.Refusal.TheVariants.{BoardFull, NotOpen}
@@ -8,19 +8,19 @@ use Rattle.board.specs.declared.Place.{Place}
 use Rattle.board.specs.declared.Board.{Board}
 use Rattle.board.specs.declared.Step.{Step}
 
-abbrev pub blankPlace : Place
-blankPlace = record { used = false; event = 0; provider = 0 }
+abbrev pub blank_place : Place
+blank_place = record { used = false; event = 0; provider = 0 }
 
 -- a place with an open break
-abbrev pub takenBy : ℕ → ℕ → Place
-takenBy id provider = record { used = true; event = id; provider = provider }
+abbrev pub taken_by : ℕ → ℕ → Place
+taken_by id provider = record { used = true; event = id; provider = provider }
 
 -- "a board of 32 places"; "Ids count up from 1"
-abbrev pub emptyBoard : Board
-emptyBoard = record { places = replicate 32 blankPlace; next = 1 }
+abbrev pub empty_board : Board
+empty_board = record { places = replicate 32 blank_place; next = 1 }
 
-abbrev pub isFree : Place → Bool
-isFree p = not p.used
+abbrev pub is_free : Place → Bool
+is_free p = not p.used
 
 abbrev pub holds : ℕ → Place → Bool
 holds event p = p.used && p.event == event
@@ -31,29 +31,29 @@ before test [] = 0
 before test (p ∷ ps) = pick (test p) 0 (suc (before test ps))
 
 -- the open breaks, in the order of their places
-unfoldable pub breaksOf : List Place → List Break
-breaksOf [] = []
-breaksOf (p ∷ ps) = pick p.used (record { event = p.event; provider = p.provider } ∷ breaksOf ps) (breaksOf ps)
+unfoldable pub breaks_of : List Place → List Break
+breaks_of [] = []
+breaks_of (p ∷ ps) = pick p.used (record { event = p.event; provider = p.provider } ∷ breaks_of ps) (breaks_of ps)
 
 -- "both leave the board as found"
-abbrev pub asFound : Refusal → Board → Step
-asFound refusal b = record { answer = Refused refusal; board = b }
+abbrev pub as_found : Refusal → Board → Step
+as_found refusal b = record { answer = Refused refusal; board = b }
 
 -- the break stands in the first free place: "A closed break's place serves a later one"
-unfoldable pub openOf : Board → ℕ → Step
-openOf b provider =
-    let id : ℕ = freeFrom 32 (breaksOf b.places) b.next in
-    pick (nat_le 32 (length (breaksOf b.places))) (asFound BoardFull b)
+unfoldable pub open_of : Board → ℕ → Step
+open_of b provider =
+    let id : ℕ = free_from 32 (breaks_of b.places) b.next in
+    pick (nat_le 32 (length (breaks_of b.places))) (as_found BoardFull b)
     (record {
       answer = Is id;
-      board = record { places = slice_set b.places (before isFree b.places) (takenBy id provider); next = after id };
+      board = record { places = slice_set b.places (before is_free b.places) (taken_by id provider); next = after id };
     })
 
-unfoldable pub closeOf : Board → ℕ → Step
-closeOf b id =
-    pick (isOpen id (breaksOf b.places))
+unfoldable pub close_of : Board → ℕ → Step
+close_of b id =
+    pick (is_open id (breaks_of b.places))
     (record {
-      answer = Is (providerOf id (breaksOf b.places));
-      board = record { places = slice_set b.places (before (holds id) b.places) blankPlace; next = b.next };
+      answer = Is (provider_of id (breaks_of b.places));
+      board = record { places = slice_set b.places (before (holds id) b.places) blank_place; next = b.next };
     })
-    (asFound NotOpen b)
+    (as_found NotOpen b)

@@ -21,8 +21,8 @@ pub record Breaks : Type 0 where
   pub next : ℕ
 
 -- "Ids count up from 1"
-abbrev pub noBreaks : Breaks
-noBreaks = record { held = []; next = 1 }
+abbrev pub no_breaks : Breaks
+no_breaks = record { held = []; next = 1 }
 
 -- "the id after 4,294,967,295 is 0"
 unfoldable pub after : ℕ → ℕ
@@ -33,11 +33,11 @@ unfoldable pub under : ℕ → List Break → List ℕ
 under id [] = []
 under id (b ∷ bs) = pick (b.event == id) (b.provider ∷ under id bs) (under id bs)
 
-abbrev pub isOpen : ℕ → List Break → Bool
-isOpen id bs = nat_lt 0 (length (under id bs))
+abbrev pub is_open : ℕ → List Break → Bool
+is_open id bs = nat_lt 0 (length (under id bs))
 
-abbrev pub providerOf : ℕ → List Break → ℕ
-providerOf id bs = slice_index (under id bs) 0
+abbrev pub provider_of : ℕ → List Break → ℕ
+provider_of id bs = slice_index (under id bs) 0
 
 -- the list without the first break of this event id
 unfoldable pub without : ℕ → List Break → List Break
@@ -45,9 +45,9 @@ without id [] = []
 without id (b ∷ bs) = pick (b.event == id) bs (b ∷ without id bs)
 
 -- "an id still open is passed over": at most n of them, which is enough where fewer than n are open (`given` in proofs/Theorems.antt)
-unfoldable pub freeFrom : ℕ → List Break → ℕ → ℕ
-freeFrom zero bs id = id
-freeFrom (suc n) bs id = pick (isOpen id bs) (freeFrom n bs (after id)) id
+unfoldable pub free_from : ℕ → List Break → ℕ → ℕ
+free_from zero bs id = id
+free_from (suc n) bs id = pick (is_open id bs) (free_from n bs (after id)) id
 
 -- what a call answers, and the list after it
 pub record Told : Type 0 where
@@ -61,12 +61,12 @@ told refusal l = record { answer = Refused refusal; breaks = l }
 -- "Opening takes a 32-bit provider id and gives an event id"; "61 open exactly when 32 are open"
 unfoldable pub opened : ℕ → ℕ → Breaks → Told
 opened limit provider l =
-    let id : ℕ = freeFrom limit l.held l.next in
+    let id : ℕ = free_from limit l.held l.next in
     pick (nat_le limit (length l.held)) (told BoardFull l)
     (record { answer = Is id; breaks = record { held = l.held ++ record { event = id; provider = provider } ∷ []; next = after id } })
 
 -- "closing takes the event id and gives the provider id back"; "62 close exactly when the id isn't open"
 unfoldable pub closed : ℕ → Breaks → Told
 closed id l =
-    pick (isOpen id l.held) (record { answer = Is (providerOf id l.held); breaks = record { held = without id l.held; next = l.next } })
+    pick (is_open id l.held) (record { answer = Is (provider_of id l.held); breaks = record { held = without id l.held; next = l.next } })
     (told NotOpen l)

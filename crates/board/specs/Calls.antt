@@ -1,7 +1,7 @@
 -- What an opening and a closing do on any board, and calls one after the other, as the contracts of the functions allow them.
 use Rattle.std.specs.Prelude.{◌≡◌, ℕ, suc, ◌+◌, ◌%◌, ◌<◌, ◌≤◌, Bool, true, false, cond as pick, not, ◌&&◌, List, [], ◌∷◌, ◌++◌, length, drop, ◌==◌}
-use Rattle.board.specs.Breaks.{Break, under, isOpen, providerOf, after}
-use Rattle.board.specs.Board.{breaksOf}
+use Rattle.board.specs.Breaks.{Break, under, is_open, provider_of, after}
+use Rattle.board.specs.Board.{breaks_of}
 use Rattle.board.specs.Runs.{Call}
 use Rattle.board.specs.Runs.Call.{opening, closing}
 use Rattle.board.specs.declared.Answer.{Answer}
@@ -16,14 +16,14 @@ pub record Typed (b : Board) : Type 0 where
 
 -- the breaks that a board holds, in whatever order
 abbrev pub held : Board → List Break
-held b = breaksOf b.places
+held b = breaks_of b.places
 
 -- "an id still open is passed over": `id` is the first from the next one on that is not open, and no more are passed over than are open
 pub record Given (bs : List Break) (next id : ℕ) : Type 0 where
   pub by : ℕ
   pub few : by ≤ length bs
   pub at : id ≡ (next + by) % 4294967296
-  pub passed : (i : ℕ) → i < by → isOpen ((next + i) % 4294967296) bs ≡ true
+  pub passed : (i : ℕ) → i < by → is_open ((next + i) % 4294967296) bs ≡ true
   pub free : under id bs ≡ []
 
 -- An accepted opening: the id was not open, is open for this provider, and what was open under any id stands as it stood; the next id follows the one given.
@@ -37,7 +37,7 @@ pub record Opened (b : Board) (provider id : ℕ) (s : Step) : Type 0 where
 
 -- An accepted closing: one break under the id is gone, and its provider is the answer; the next id stays.
 pub record Closed (b : Board) (id : ℕ) (s : Step) : Type 0 where
-  pub answer : s.answer ≡ Is (providerOf id (held b))
+  pub answer : s.answer ≡ Is (provider_of id (held b))
   pub gone : under id (held s.board) ≡ drop 1 (under id (held b))
   pub others : (k : ℕ) → (id == k) ≡ false → under k (held s.board) ≡ under k (held b)
   pub many : length (held b) ≡ suc (length (held s.board))

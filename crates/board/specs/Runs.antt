@@ -1,7 +1,7 @@
 -- Calls, and what the plain list answers to them one after the other.
 use Rattle.std.specs.Prelude.{ℕ, List, [], ◌∷◌}
 use Rattle.board.specs.Breaks.{Breaks, Told, opened, closed}
-use Rattle.board.specs.Board.{openOf, closeOf}
+use Rattle.board.specs.Board.{open_of, close_of}
 use Rattle.board.specs.declared.Answer.{Answer}
 use Rattle.board.specs.declared.Board.{Board}
 use Rattle.board.specs.declared.Step.{Step}
@@ -12,14 +12,14 @@ pub data Call : Type 0 where
 
 -- what the two functions ensure of a call
 abbrev pub step_of : Call → Board → Step
-step_of (opening provider) b = openOf b provider
-step_of (closing id) b = closeOf b id
+step_of (opening provider) b = open_of b provider
+step_of (closing id) b = close_of b id
 
-abbrev pub toldOf : ℕ → Call → Breaks → Told
-toldOf limit (opening provider) l = opened limit provider l
-toldOf limit (closing id) l = closed id l
+abbrev pub told_of : ℕ → Call → Breaks → Told
+told_of limit (opening provider) l = opened limit provider l
+told_of limit (closing id) l = closed id l
 
 -- the plain list's answers
-unfoldable pub listAnswers : ℕ → List Call → Breaks → List Answer
-listAnswers limit [] l = []
-listAnswers limit (c ∷ cs) l = (toldOf limit c l).answer ∷ listAnswers limit cs (toldOf limit c l).breaks
+unfoldable pub list_answers : ℕ → List Call → Breaks → List Answer
+list_answers limit [] l = []
+list_answers limit (c ∷ cs) l = (told_of limit c l).answer ∷ list_answers limit cs (told_of limit c l).breaks

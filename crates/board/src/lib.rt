@@ -1,7 +1,7 @@
 // The open-break board (Q-7): 32 places for breaks now open. A board goes in by value and comes back.
 ghost use Rattle.std.specs.Prelude.{◌≡◌, length};
-ghost use Rattle.board.specs.Breaks.{freeFrom};
-ghost use Rattle.board.specs.Board.{blankPlace, emptyBoard, isFree, holds, before, breaksOf, asFound, openOf, closeOf};
+ghost use Rattle.board.specs.Breaks.{free_from};
+ghost use Rattle.board.specs.Board.{blank_place, empty_board, is_free, holds, before, breaks_of, as_found, open_of, close_of};
 
 // A place: free, or with an open break's event id and provider id. A free place is all zero.
 #[derive(Drop)]
@@ -40,7 +40,7 @@ pub struct Step {
 }
 
 pub fn blank_place() -> Place
-    ensures { result ≡ blankPlace }
+    ensures { result ≡ blank_place }
 {
     Place {
         used: false,
@@ -50,7 +50,7 @@ pub fn blank_place() -> Place
 }
 
 pub fn empty() -> Board
-    ensures { result ≡ emptyBoard }
+    ensures { result ≡ empty_board }
 {
     let none = blank_place();
     Board {
@@ -61,7 +61,7 @@ pub fn empty() -> Board
 
 // The first free place, or 32. (A proof of who calls this is not told how long an array in a struct is: the contract says it.)
 pub fn free_place(places: [Place; 32]) -> usize
-    ensures { (result ≡ before isFree places) × (length places ≡ 32) }
+    ensures { (result ≡ before is_free places) × (length places ≡ 32) }
 {
     let mut i: usize = 0;
     while i < 32 {
@@ -96,7 +96,7 @@ pub fn place_of(places: [Place; 32], event: u32) -> usize
 
 // The first event id from `next` on that is not open. With fewer than `most` open, fewer than `most` are passed over (proofs/Fresh.antt).
 pub fn free_id(places: [Place; 32], next: u32, most: u32) -> u32
-    ensures { result ≡ freeFrom most (breaksOf places) next }
+    ensures { result ≡ free_from most (breaks_of places) next }
 {
     let mut id = next;
     let mut left = most;
@@ -111,7 +111,7 @@ pub fn free_id(places: [Place; 32], next: u32, most: u32) -> u32
 }
 
 fn refused(b: Board, refusal: Refusal) -> Step
-    ensures { result ≡ asFound refusal b }
+    ensures { result ≡ as_found refusal b }
 {
     Step {
         answer: Answer::Refused(refusal),
@@ -121,7 +121,7 @@ fn refused(b: Board, refusal: Refusal) -> Step
 
 // Opens a break for this provider id: its event id, or 61 where all places are taken.
 pub fn open_break(b: Board, provider: u32) -> Step
-    ensures { result ≡ openOf b provider }
+    ensures { result ≡ open_of b provider }
 {
     let places = b.places;
     let at = free_place(places);
@@ -146,7 +146,7 @@ pub fn open_break(b: Board, provider: u32) -> Step
 
 // Closes the break with this event id: its provider id, or 62 where none has it.
 pub fn close_break(b: Board, event: u32) -> Step
-    ensures { result ≡ closeOf b event }
+    ensures { result ≡ close_of b event }
 {
     let places = b.places;
     let at = place_of(places, event);

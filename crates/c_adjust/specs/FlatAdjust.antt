@@ -7,13 +7,13 @@ use Rattle.splice_time.specs.declared.SpliceTime.TheVariants.{Immediate, Unspeci
 use Rattle.c_adjust.specs.declared.FlatAdjustment.{FlatAdjustment}
 
 -- a time of the kind that was handed in: one that is not specified stays so; or refusal 32
-unfoldable pub flatMoved : ℕ → Moved → FlatAdjusted
-flatMoved kind (Moved.Is Immediate) = record { refusal = 0; kind = kind; ticks = 0 }
-flatMoved kind (Moved.Is Unspecified) = record { refusal = 0; kind = kind; ticks = 0 }
-flatMoved kind (Moved.Is (At t)) = record { refusal = 0; kind = 3; ticks = t }
-flatMoved kind Moved.TooLarge = record { refusal = 32; kind = 0; ticks = 0 }
+unfoldable pub flat_moved : ℕ → Moved → FlatAdjusted
+flat_moved kind (Moved.Is Immediate) = record { refusal = 0; kind = kind; ticks = 0 }
+flat_moved kind (Moved.Is Unspecified) = record { refusal = 0; kind = kind; ticks = 0 }
+flat_moved kind (Moved.Is (At t)) = record { refusal = 0; kind = 3; ticks = t }
+flat_moved kind Moved.TooLarge = record { refusal = 32; kind = 0; ticks = 0 }
 
 -- an adjustment, or refusal 32
-unfoldable pub flatAdjustment : Adjustment → FlatAdjustment
-flatAdjustment (Adjustment.Is a) = record { refusal = 0; adjustment = a }
-flatAdjustment Adjustment.TooLarge = record { refusal = 32; adjustment = 0 }
+unfoldable pub flat_adjustment : Adjustment → FlatAdjustment
+flat_adjustment (Adjustment.Is a) = record { refusal = 0; adjustment = a }
+flat_adjustment Adjustment.TooLarge = record { refusal = 32; adjustment = 0 }

@@ -1,6 +1,6 @@
 // The flat forms of Q-12's answers: a time that was moved, and an adjustment.
 ghost use Rattle.std.specs.Prelude.{◌≡◌};
-ghost use Rattle.c_adjust.specs.FlatAdjust.{flatMoved, flatAdjustment};
+ghost use Rattle.c_adjust.specs.FlatAdjust.{flat_moved, flat_adjustment};
 
 use adjust::{Adjustment, Moved};
 use c_section::headers::{FlatAdjusted, TOO_LARGE};
@@ -15,7 +15,7 @@ pub struct FlatAdjustment {
 
 // A time of the kind that was handed in: one that is not specified keeps it.
 pub fn flat_moved(kind: u64, m: Moved) -> FlatAdjusted
-    ensures { result ≡ flatMoved kind m }
+    ensures { result ≡ flat_moved kind m }
 {
     match m {
         Moved::Is(time) => match time {
@@ -44,7 +44,7 @@ pub fn flat_moved(kind: u64, m: Moved) -> FlatAdjusted
 }
 
 pub fn flat_adjustment(a: Adjustment) -> FlatAdjustment
-    ensures { result ≡ flatAdjustment a }
+    ensures { result ≡ flat_adjustment a }
 {
     match a {
         Adjustment::Is(adjustment) => FlatAdjustment {

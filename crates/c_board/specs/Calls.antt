@@ -14,9 +14,9 @@ lent_by channel (closing id) words = closed words channel id
 abbrev pub lent_of : On → List ℕ → Lent
 lent_of o words = lent_by o.channel o.call words
 
-unfoldable pub lentAnswers : List On → List ℕ → List FlatBoardAnswer
-lentAnswers [] words = []
-lentAnswers (o ∷ os) words = (lent_of o words).answer ∷ lentAnswers os (lent_of o words).words
+unfoldable pub lent_answers : List On → List ℕ → List FlatBoardAnswer
+lent_answers [] words = []
+lent_answers (o ∷ os) words = (lent_of o words).answer ∷ lent_answers os (lent_of o words).words
 
 -- what the types say of calls: a provider id has 32 bits
 abbrev pub TypedCall : Call → Type 0

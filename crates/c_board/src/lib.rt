@@ -3,9 +3,9 @@
 // shorter one is refused (36). Only an accepted call changes the words.
 ghost use Rattle.std.specs.Prelude.{◌≤◌, ◌≡◌, length};
 ghost use Rattle.board.specs.Breaks.{number_of};
-ghost use Rattle.c_board.specs.Words.{placeGiven, placesGiven, whoseGiven, boardGiven, idsWord, markWord, word_of, stored};
+ghost use Rattle.c_board.specs.Words.{place_given, places_given, whose_given, board_given, ids_word, mark_word, word_of, stored};
 ghost use Rattle.channels.specs.declared.Reply.TheVariants as reply;
-ghost use Rattle.c_board.specs.Lent.{flatReply, settled, emptied, opened, closed};
+ghost use Rattle.c_board.specs.Lent.{flat_reply, settled, emptied, opened, closed};
 
 use board::{Answer, Place, Refusal, blank_place};
 use channels::{Reply, SharedBoard, close_break, empty, open_break};
@@ -32,7 +32,7 @@ const BOARD_WORDS: usize = 66;
 const ABOVE: u64 = 4294967296;
 
 fn place_given(ids: u64, mark: u64) -> Place
-    ensures { result ≡ placeGiven ids mark }
+    ensures { result ≡ place_given ids mark }
 {
     Place {
         used: mark % 2 == 1,
@@ -43,7 +43,7 @@ fn place_given(ids: u64, mark: u64) -> Place
 
 fn places_given(words: &[u64]) -> [Place; PLACES]
     requires { 66 ≤ length words.now }
-    ensures { result ≡ placesGiven words.now }
+    ensures { result ≡ places_given words.now }
 {
     let none = blank_place();
     let mut out = [none; PLACES];
@@ -57,7 +57,7 @@ fn places_given(words: &[u64]) -> [Place; PLACES]
 
 fn whose_given(words: &[u64]) -> [u8; PLACES]
     requires { 66 ≤ length words.now }
-    ensures { result ≡ whoseGiven words.now }
+    ensures { result ≡ whose_given words.now }
 {
     let mut out = [0; PLACES];
     let mut i: usize = 0;
@@ -70,7 +70,7 @@ fn whose_given(words: &[u64]) -> [u8; PLACES]
 
 fn board_given(words: &[u64]) -> SharedBoard
     requires { 66 ≤ length words.now }
-    ensures { result ≡ boardGiven words.now }
+    ensures { result ≡ board_given words.now }
 {
     let places = places_given(words);
     let whose = whose_given(words);
@@ -85,13 +85,13 @@ fn board_given(words: &[u64]) -> SharedBoard
 }
 
 fn ids_word(p: Place) -> u64
-    ensures { result ≡ idsWord p }
+    ensures { result ≡ ids_word p }
 {
     (p.event as u64) * ABOVE + (p.provider as u64)
 }
 
 fn mark_word(p: Place, whose: u8) -> u64
-    ensures { result ≡ markWord p whose }
+    ensures { result ≡ mark_word p whose }
 {
     if p.used {
         return (whose as u64) * 2 + 1;
@@ -138,7 +138,7 @@ fn number_of(r: Refusal) -> u64
 }
 
 fn flat_answer(a: Answer) -> FlatBoardAnswer
-    ensures { result ≡ flatReply (reply.Is a) }
+    ensures { result ≡ flat_reply (reply.Is a) }
 {
     match a {
         Answer::Is(id) => FlatBoardAnswer {
@@ -153,7 +153,7 @@ fn flat_answer(a: Answer) -> FlatBoardAnswer
 }
 
 fn flat_reply(x: Reply) -> FlatBoardAnswer
-    ensures { result ≡ flatReply x }
+    ensures { result ≡ flat_reply x }
 {
     match x {
         Reply::NoSuchChannel => FlatBoardAnswer { refusal: 63, id: 0 },

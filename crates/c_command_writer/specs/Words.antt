@@ -20,14 +20,14 @@ same [] words = true
 same (x ∷ own) words = eqb (word words 0) x && same own (drop 1 words)
 
 -- does each of the first n places of an array, each of k words, pass a test?
-unfoldable pub eachPlace : (List ℕ → Bool) → ℕ → ℕ → List ℕ → Bool
-eachPlace test k zero words = true
-eachPlace test k (suc n) words = test words && eachPlace test k n (drop k words)
+unfoldable pub each_place : (List ℕ → Bool) → ℕ → ℕ → List ℕ → Bool
+each_place test k zero words = true
+each_place test k (suc n) words = test words && each_place test k n (drop k words)
 
 -- ---- the flat form of what a writer answers
-unfoldable pub flatWritten : Written → FlatWritten
-flatWritten (Written.Wrote n) = record { refusal = 0; length = n }
-flatWritten (Written.Refused n) = record { refusal = n; length = 0 }
+unfoldable pub flat_written : Written → FlatWritten
+flat_written (Written.Wrote n) = record { refusal = 0; length = n }
+flat_written (Written.Refused n) = record { refusal = n; length = 0 }
 
 -- ---- for what the contracts say by functions (CommandGiven.antt and the like)
 -- the first n places of an array, each of k words
@@ -36,21 +36,21 @@ places_of f k zero words = []
 places_of f k (suc n) words = f words ∷ places_of f k n (drop k words)
 
 -- the number of the words' own refusal, 0 for none
-abbrev pub refusalOf : Bool → Bool → ℕ
-refusalOf fits own = pick fits (pick own 0 33) 32
+abbrev pub refusal_of : Bool → Bool → ℕ
+refusal_of fits own = pick fits (pick own 0 33) 32
 
 -- 31 before it, where a view is not seen
-abbrev pub seenFirst : Bool → ℕ → ℕ
-seenFirst seen n = pick seen n 31
+abbrev pub seen_first : Bool → ℕ → ℕ
+seen_first seen n = pick seen n 31
 
 -- the lower of two refusals
-abbrev pub lowerOf : ℕ → ℕ → ℕ
-lowerOf m n = pick (ltb n m) n m
+abbrev pub lower_of : ℕ → ℕ → ℕ
+lower_of m n = pick (ltb n m) n m
 
 -- "31 to 36 are checked in order of number": the words' own refusal, unless that of the value is lower
 abbrev pub lowest : ℕ → Made → ℕ
 lowest n (made b) = n
-lowest n (refused k) = lowerOf n k
+lowest n (refused k) = lower_of n k
 
-unfoldable pub noLess : ℕ → Made → Made
-noLess n m = pick (eqb n 0) m (refused (lowest n m))
+unfoldable pub no_less : ℕ → Made → Made
+no_less n m = pick (eqb n 0) m (refused (lowest n m))

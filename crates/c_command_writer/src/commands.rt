@@ -1,12 +1,12 @@
 // The command that words make, and refusals 32 and 33 of its words.
 ghost use Rattle.std.specs.Prelude.{[], ◌≡◌, ◌≤◌, drop};
-ghost use Rattle.command.specs.Command.{array, countIn};
-ghost use Rattle.command_measure.specs.Made.{commandMade};
-ghost use Rattle.c_command_writer.specs.CommandGiven.{modeIn, breakIn, insertIn, commandIn, modeFrom, breakFrom, insertFrom, insertionFrom, commandFrom};
-ghost use Rattle.c_command_writer.specs.CommandWords.{commandWords, commandWidths, commandSeen};
-ghost use Rattle.c_command_writer.specs.CommandGiven.{componentsFrom, commandGiven, wordsRefusal, commandRefusal, commandWordsMade};
-ghost use Rattle.c_command_writer.specs.Words.{within, same, flatWritten, noLess};
-ghost use Rattle.bit_stores.specs.Written.{answer_of, laterOf};
+ghost use Rattle.command.specs.Command.{array, count_in};
+ghost use Rattle.command_measure.specs.Made.{command_made};
+ghost use Rattle.c_command_writer.specs.CommandGiven.{mode_in, break_in, insert_in, command_in, mode_from, break_from, insert_from, insertion_from, command_from};
+ghost use Rattle.c_command_writer.specs.CommandWords.{command_words, command_widths, command_seen};
+ghost use Rattle.c_command_writer.specs.CommandGiven.{components_from, command_given, words_refusal, command_refusal, command_words_made};
+ghost use Rattle.c_command_writer.specs.Words.{within, same, flat_written, no_less};
+ghost use Rattle.bit_stores.specs.Written.{answer_of, later_of};
 
 use crate::insert_components::{
     components_from, insert_components_within, own_insert_components, time_from,
@@ -42,7 +42,7 @@ const PRIVATE_AT: usize = 19;
 const PRIVATE_LEN: usize = 20;
 
 fn mode_in(words: &[u64]) -> FlatMode
-    ensures { result ≡ modeIn words.now }
+    ensures { result ≡ mode_in words.now }
 {
     FlatMode {
         program_splice_flag: word_at(words, 6),
@@ -55,7 +55,7 @@ fn mode_in(words: &[u64]) -> FlatMode
 }
 
 fn break_in(words: &[u64]) -> FlatBreak
-    ensures { result ≡ breakIn words.now }
+    ensures { result ≡ break_in words.now }
 {
     FlatBreak {
         duration_flag: word_at(words, 10),
@@ -65,7 +65,7 @@ fn break_in(words: &[u64]) -> FlatBreak
 }
 
 fn insert_in(words: &[u64]) -> FlatInsert
-    ensures { result ≡ insertIn words.now }
+    ensures { result ≡ insert_in words.now }
 {
     FlatInsert {
         splice_event_id: word_at(words, 2),
@@ -81,7 +81,7 @@ fn insert_in(words: &[u64]) -> FlatInsert
 }
 
 fn command_in(words: &[u64]) -> FlatCommand
-    ensures { result ≡ commandIn words.now }
+    ensures { result ≡ command_in words.now }
 {
     FlatCommand {
         refusal: word_at(words, 0),
@@ -102,7 +102,7 @@ fn command_in(words: &[u64]) -> FlatCommand
 // ---- the value that it makes
 
 fn mode_from(m: FlatMode) -> SpliceMode
-    ensures { result ≡ modeFrom m }
+    ensures { result ≡ mode_from m }
 {
     if m.program_splice_flag == 1 {
         let time = m.splice_time;
@@ -112,7 +112,7 @@ fn mode_from(m: FlatMode) -> SpliceMode
 }
 
 fn break_from(b: FlatBreak) -> Break
-    ensures { result ≡ breakFrom b }
+    ensures { result ≡ break_from b }
 {
     if b.duration_flag == 1 {
         let return_mode = if b.auto_return == 1 {
@@ -129,7 +129,7 @@ fn break_from(b: FlatBreak) -> Break
 }
 
 fn insert_from(i: FlatInsert) -> InsertDetail
-    ensures { result ≡ insertFrom i }
+    ensures { result ≡ insert_from i }
 {
     let mode = i.mode;
     let lasts = i.break_duration;
@@ -149,7 +149,7 @@ fn insert_from(i: FlatInsert) -> InsertDetail
 }
 
 fn insertion_from(i: FlatInsert) -> SpliceInsert
-    ensures { result ≡ insertionFrom i }
+    ensures { result ≡ insertion_from i }
 {
     let splice_detail = if i.splice_event_cancel_indicator == 1 {
         SpliceDetail::Cancel
@@ -164,7 +164,7 @@ fn insertion_from(i: FlatInsert) -> SpliceInsert
 }
 
 pub(crate) fn command_from(c: FlatCommand) -> SpliceCommand
-    ensures { result ≡ commandFrom c }
+    ensures { result ≡ command_from c }
 {
     let command_type = c.splice_command_type;
     match command_type {
@@ -193,7 +193,7 @@ pub(crate) fn command_from(c: FlatCommand) -> SpliceCommand
 
 // How many components it has.
 pub fn count_in_command(c: SpliceCommand) -> u8
-    ensures { result ≡ countIn c }
+    ensures { result ≡ count_in c }
 {
     let insertion = match c {
         SpliceCommand::SpliceNull => return 0,
@@ -218,21 +218,21 @@ pub fn count_in_command(c: SpliceCommand) -> u8
 
 // The command that words make.
 pub fn command_given(words: &[u64]) -> SpliceCommand
-    ensures { result ≡ commandGiven words.now }
+    ensures { result ≡ command_given words.now }
 {
     command_from(command_in(words))
 }
 
 // Its components, as many as it has.
 pub fn components_given(c: SpliceCommand, words: &[u64]) -> [InsertComponent; MAX_COMPONENTS]
-    ensures { result ≡ componentsFrom (countIn c) words.now }
+    ensures { result ≡ components_from (count_in c) words.now }
 {
     components_from(count_in_command(c) as usize, words)
 }
 
 // Refusal 32 of the words of a command, in their order: is each within its width?
 fn is_command_within(words: &[u64]) -> bool
-    ensures { result ≡ within commandWidths words.now }
+    ensures { result ≡ within command_widths words.now }
 {
     // refusal, splice_command_type; splice_event_id, splice_event_cancel_indicator
     if !are_four_within(64, 8, 32, 1, words) {
@@ -260,7 +260,7 @@ fn is_command_within(words: &[u64]) -> bool
 
 // Refusal 33 of the words of a command from its ninth on: are they those of a flat form?
 fn is_flat_behind(c: FlatCommand, words: &[u64]) -> bool
-    ensures { result ≡ same (drop 8 (commandWords c)) (drop 8 words.now) }
+    ensures { result ≡ same (drop 8 (command_words c)) (drop 8 words.now) }
 {
     let i = c.insert;
     let mode = i.mode;
@@ -300,7 +300,7 @@ fn is_flat_behind(c: FlatCommand, words: &[u64]) -> bool
 
 // Are the words those of this flat command?
 fn is_flat_command(c: FlatCommand, words: &[u64]) -> bool
-    ensures { result ≡ same (commandWords c) words.now }
+    ensures { result ≡ same (command_words c) words.now }
 {
     let i = c.insert;
     let mode = i.mode;
@@ -328,7 +328,7 @@ fn is_flat_command(c: FlatCommand, words: &[u64]) -> bool
 
 // Refusals 32 and 33 of the words themselves; 0 for none.
 fn words_refusal(c: SpliceCommand, words: &[u64], components: &[u64]) -> u64
-    ensures { result ≡ wordsRefusal c words.now components.now }
+    ensures { result ≡ words_refusal c words.now components.now }
 {
     let count = count_in_command(c) as usize;
     if !is_command_within(words) {
@@ -348,7 +348,7 @@ fn words_refusal(c: SpliceCommand, words: &[u64], components: &[u64]) -> u64
 
 // Refusal 31 of the words of a command: does their view, whatever the command's type, lie in the lent bytes?
 fn is_command_seen(words: &[u64], lent: &[u8]) -> bool
-    ensures { result ≡ commandSeen words.now lent.now }
+    ensures { result ≡ command_seen words.now lent.now }
 {
     lies_in(
         lent,
@@ -361,7 +361,7 @@ fn is_command_seen(words: &[u64], lent: &[u8]) -> bool
 
 // Refusals 31 to 33 of the words themselves, in their order; 0 for none.
 pub fn command_refusal(c: SpliceCommand, words: &[u64], components: &[u64], lent: &[u8]) -> u64
-    ensures { result ≡ commandRefusal c words.now components.now lent.now }
+    ensures { result ≡ command_refusal c words.now components.now lent.now }
 {
     if !is_command_seen(words, lent) {
         return 31;
@@ -377,8 +377,8 @@ fn write_words_without_components(
     target: &mut [u8],
 ) -> FlatWritten
     requires { refusal ≤ 36 }
-    ensures answer { result ≡ flatWritten (answer_of (noLess refusal (commandMade command (array []) lent.now)) target.old) }
-    ensures bytes { target.new ≡ laterOf (noLess refusal (commandMade command (array []) lent.now)) target.old }
+    ensures answer { result ≡ flat_written (answer_of (no_less refusal (command_made command (array []) lent.now)) target.old) }
+    ensures bytes { target.new ≡ later_of (no_less refusal (command_made command (array []) lent.now)) target.old }
 {
     if refusal == 0 {
         return flat_written(write_command_without_components(command, lent, target));
@@ -398,8 +398,8 @@ fn write_listed_words(
     target: &mut [u8],
 ) -> FlatWritten
     requires { refusal ≤ 36 }
-    ensures answer { result ≡ flatWritten (answer_of (noLess refusal (commandMade command (componentsFrom (countIn command) components.now) lent.now)) target.old) }
-    ensures bytes { target.new ≡ laterOf (noLess refusal (commandMade command (componentsFrom (countIn command) components.now) lent.now)) target.old }
+    ensures answer { result ≡ flat_written (answer_of (no_less refusal (command_made command (components_from (count_in command) components.now) lent.now)) target.old) }
+    ensures bytes { target.new ≡ later_of (no_less refusal (command_made command (components_from (count_in command) components.now) lent.now)) target.old }
 {
     let places = components_given(command, components);
     if 0 < refusal {
@@ -418,8 +418,8 @@ pub fn write_command_words(
     lent: &[u8],
     target: &mut [u8],
 ) -> FlatWritten
-    ensures answer { result ≡ flatWritten (answer_of (commandWordsMade words.now components.now lent.now) target.old) }
-    ensures bytes { target.new ≡ laterOf (commandWordsMade words.now components.now lent.now) target.old }
+    ensures answer { result ≡ flat_written (answer_of (command_words_made words.now components.now lent.now) target.old) }
+    ensures bytes { target.new ≡ later_of (command_words_made words.now components.now lent.now) target.old }
 {
     let command = command_given(words);
     let refusal = command_refusal(command, words, components, lent);

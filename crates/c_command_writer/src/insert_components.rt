@@ -1,7 +1,7 @@
 // The components of an insert: places of three words, after the refusal and the count of their struct.
 ghost use Rattle.std.specs.Prelude.{◌≡◌, ◌≤◌};
-ghost use Rattle.c_command_writer.specs.CommandGiven.{timeFrom, componentFrom, componentsFrom, ownComponent, insertComponentsWithin, ownInsertComponents};
-ghost use Rattle.c_command_writer.specs.CommandWords.{componentWidths};
+ghost use Rattle.c_command_writer.specs.CommandGiven.{time_from, component_from, components_from, own_component, insert_components_within, own_insert_components};
+ghost use Rattle.c_command_writer.specs.CommandWords.{component_widths};
 ghost use Rattle.c_command_writer.specs.Words.{within};
 
 use crate::{are_within, word_at, words_from};
@@ -20,7 +20,7 @@ const KIND: usize = 1;
 const TICKS: usize = 2;
 
 pub(crate) fn time_from(kind: u64, ticks: u64) -> SpliceTime
-    ensures { result ≡ timeFrom (record { kind = kind; ticks = ticks }) }
+    ensures { result ≡ time_from (record { kind = kind; ticks = ticks }) }
 {
     match kind {
         1 => SpliceTime::Immediate,
@@ -30,7 +30,7 @@ pub(crate) fn time_from(kind: u64, ticks: u64) -> SpliceTime
 }
 
 fn component_from(words: &[u64]) -> InsertComponent
-    ensures { result ≡ componentFrom words.now }
+    ensures { result ≡ component_from words.now }
 {
     InsertComponent {
         component_tag: (word_at(words, TAG) % 256) as u8,
@@ -40,7 +40,7 @@ fn component_from(words: &[u64]) -> InsertComponent
 
 // Refusal 33 of one of them: a kind that no time has, ticks beside another kind than that of a specified time. (A tag over 255 is refused with 32 before.)
 fn is_own_component(words: &[u64]) -> bool
-    ensures { result ≡ ownComponent words.now }
+    ensures { result ≡ own_component words.now }
 {
     if 255 < word_at(words, TAG) {
         return false;
@@ -55,7 +55,7 @@ fn is_own_component(words: &[u64]) -> bool
 // The first `count` in their array, blank past them.
 pub(crate) fn components_from(count: usize, words: &[u64]) -> [InsertComponent; MAX_COMPONENTS]
     requires { count ≤ 255 }
-    ensures { result ≡ componentsFrom count words.now }
+    ensures { result ≡ components_from count words.now }
 {
     let mut out = blanks();
     let mut i: usize = 0;
@@ -69,7 +69,7 @@ pub(crate) fn components_from(count: usize, words: &[u64]) -> [InsertComponent; 
 // Refusal 32 of the first `count`.
 pub(crate) fn insert_components_within(count: usize, words: &[u64]) -> bool
     requires { count ≤ 255 }
-    ensures { result ≡ insertComponentsWithin count words.now }
+    ensures { result ≡ insert_components_within count words.now }
 {
     let widths: [u64; EACH] = [8, 2, 33];
     let mut i: usize = 0;
@@ -85,7 +85,7 @@ pub(crate) fn insert_components_within(count: usize, words: &[u64]) -> bool
 // Refusal 33 of the first `count`.
 pub(crate) fn own_insert_components(count: usize, words: &[u64]) -> bool
     requires { count ≤ 255 }
-    ensures { result ≡ ownInsertComponents count words.now }
+    ensures { result ≡ own_insert_components count words.now }
 {
     let mut i: usize = 0;
     while i < count {

@@ -1,7 +1,7 @@
 // The writers over the C boundary. They take words, those of the C structs in their order: a word past the end of the slice counts as 0, and words past the
 // struct's end are not looked at. Words of which one exceeds its field (32), or that are not those of a value's flat form (33), are not written.
 ghost use Rattle.std.specs.Prelude.{[], ◌∷◌, ◌≡◌, ◌^◌, ltb, drop};
-ghost use Rattle.c_command_writer.specs.Words.{word, within, same, flatWritten};
+ghost use Rattle.c_command_writer.specs.Words.{word, within, same, flat_written};
 ghost use Rattle.c_command_writer.specs.Private.{lower};
 
 use bit_stores::Written;
@@ -18,7 +18,7 @@ pub struct FlatWritten {
 }
 
 pub fn flat_written(w: Written) -> FlatWritten
-    ensures { result ≡ flatWritten w }
+    ensures { result ≡ flat_written w }
 {
     match w {
         Written::Wrote(n) => FlatWritten {

@@ -1,6 +1,6 @@
 // The flat form of what a line says (Q-1).
 ghost use Rattle.std.specs.Prelude.{◌≡◌};
-ghost use Rattle.c_daterange.specs.FlatDaterange.{nameNumber, flatDaterange};
+ghost use Rattle.c_daterange.specs.FlatDaterange.{name_number, flat_daterange};
 
 use c_section::{FlatView, flat_view};
 use daterange_line::{Cue, Read};
@@ -16,7 +16,7 @@ pub struct FlatDaterange {
 }
 
 fn name_number(c: Cue) -> u64
-    ensures { result ≡ nameNumber c }
+    ensures { result ≡ name_number c }
 {
     match c {
         Cue::Cmd => 1,
@@ -26,7 +26,7 @@ fn name_number(c: Cue) -> u64
 }
 
 pub fn flat_daterange(x: Read) -> FlatDaterange
-    ensures { result ≡ flatDaterange x }
+    ensures { result ≡ flat_daterange x }
 {
     match x {
         Read::Is(y) => {

@@ -3,13 +3,13 @@
 use Prim.Native.Nat.{◌^◌, ◌<◌}
 use mathlib.Core.Bool.{true}
 use mathlib.Core.Path.{◌≡◌}
-use Rattle.descriptor.specs.Segmentation.{byProgram, lasting, unrestricted}
+use Rattle.descriptor.specs.Segmentation.{by_program, lasting, unrestricted}
 use Rattle.descriptor.specs.declared.Descriptor.{Descriptor}
 use Rattle.descriptor.specs.declared.segmentation.DescriptorDetail.{DescriptorDetail}
 use Rattle.descriptor.specs.declared.segmentation.SegmentationDetail.{SegmentationDetail}
 use Rattle.descriptor.specs.declared.segmentation.SegmentationMode.{SegmentationMode}
 use Rattle.descriptor.specs.declared.segmentation.SubSegments.{SubSegments}
-use Rattle.names.specs.Segmentation.{segmentationNumber, writableSegmentation}
+use Rattle.names.specs.Segmentation.{segmentation_number, writable_segmentation}
 
 abbrev pub TypedMode : SegmentationMode → Type 0
 TypedMode SegmentationMode.Program = Unit {0}
@@ -23,13 +23,13 @@ pub record TypedActive (i : SegmentationDetail) : Type 0 where
   pub mode : TypedMode i.segmentation_mode
   pub subs : TypedSubs i.sub_segments
   pub upid : i.segmentation_upid.upid_type < 256
-  pub type-number : segmentationNumber i.segmentation_type_id < 256
+  pub type_number : segmentation_number i.segmentation_type_id < 256
   pub num : i.segment_num < 256
   pub expected : i.segments_expected < 256
-  pub program-flag : i.program_segmentation_flag ≡ byProgram i.segmentation_mode
-  pub duration-flag : i.segmentation_duration_flag ≡ lasting i.segmentation_duration
-  pub free-flag : i.delivery_not_restricted_flag ≡ unrestricted i.delivery_restrictions
-  pub type-writable : writableSegmentation i.segmentation_type_id ≡ true
+  pub program_flag : i.program_segmentation_flag ≡ by_program i.segmentation_mode
+  pub duration_flag : i.segmentation_duration_flag ≡ lasting i.segmentation_duration
+  pub free_flag : i.delivery_not_restricted_flag ≡ unrestricted i.delivery_restrictions
+  pub type_writable : writable_segmentation i.segmentation_type_id ≡ true
 
 abbrev pub TypedDetail : DescriptorDetail → Type 0
 TypedDetail DescriptorDetail.Cancel = Unit {0}

@@ -1,8 +1,8 @@
 // What stands beside an item: an identifier; components, which are places of two words; and an EIDR, a byte to a word. Before the 255 places stand refusal,
 // three values and the count, and behind them the EIDR.
 ghost use Rattle.std.specs.Prelude.{◌≡◌, ◌≤◌};
-ghost use Rattle.c_descriptor_writer.specs.ItemGiven.{identifierFrom, placeFrom, placesFrom, eidrFrom, besideFrom};
-ghost use Rattle.c_descriptor_writer.specs.ItemWords.{placesWithin, besideWithin};
+ghost use Rattle.c_descriptor_writer.specs.ItemGiven.{identifier_from, place_from, places_from, eidr_from, beside_from};
+ghost use Rattle.c_descriptor_writer.specs.ItemWords.{places_within, beside_within};
 
 use crate::values::IDENTIFIER;
 use c_command_writer::{are_four_within, are_within, word_at, words_from};
@@ -24,7 +24,7 @@ pub(crate) const BESIDE_WORDS: usize = 527;
 
 // Four bytes, the high one first.
 pub(crate) fn identifier_from(words: &[u64]) -> [u8; 4]
-    ensures { result ≡ identifierFrom words.now }
+    ensures { result ≡ identifier_from words.now }
 {
     let number = word_at(words, IDENTIFIER);
     [
@@ -36,7 +36,7 @@ pub(crate) fn identifier_from(words: &[u64]) -> [u8; 4]
 }
 
 fn place_from(words: &[u64]) -> SegmentationComponent
-    ensures { result ≡ placeFrom words.now }
+    ensures { result ≡ place_from words.now }
 {
     SegmentationComponent {
         component_tag: (word_at(words, 0) % 256) as u8,
@@ -47,7 +47,7 @@ fn place_from(words: &[u64]) -> SegmentationComponent
 // The first `count` components in their array, blank past them.
 fn places_from(count: usize, words: &[u64]) -> [SegmentationComponent; MAX_COMPONENTS]
     requires { count ≤ 255 }
-    ensures { result ≡ placesFrom count words.now }
+    ensures { result ≡ places_from count words.now }
 {
     let blank = blank_beside();
     let mut out = blank.components;
@@ -60,7 +60,7 @@ fn places_from(count: usize, words: &[u64]) -> [SegmentationComponent; MAX_COMPO
 }
 
 pub(crate) fn eidr_from(words: &[u64]) -> [u8; 12]
-    ensures { result ≡ eidrFrom words.now }
+    ensures { result ≡ eidr_from words.now }
 {
     let mut out = [0u8; 12];
     let mut i: usize = 0;
@@ -73,7 +73,7 @@ pub(crate) fn eidr_from(words: &[u64]) -> [u8; 12]
 
 pub(crate) fn beside_from(count: usize, words: &[u64]) -> Beside
     requires { count ≤ 255 }
-    ensures { result ≡ besideFrom count words.now }
+    ensures { result ≡ beside_from count words.now }
 {
     Beside {
         components: places_from(count, words),
@@ -84,7 +84,7 @@ pub(crate) fn beside_from(count: usize, words: &[u64]) -> Beside
 // Refusal 32 of the first `count` components.
 fn places_within(count: usize, words: &[u64]) -> bool
     requires { count ≤ 255 }
-    ensures { result ≡ placesWithin count words.now }
+    ensures { result ≡ places_within count words.now }
 {
     let widths: [u64; EACH] = [8, 33];
     let mut i: usize = 0;
@@ -100,7 +100,7 @@ fn places_within(count: usize, words: &[u64]) -> bool
 // Do the words of the components and of the EIDR keep within their widths?
 pub(crate) fn beside_within(count: usize, words: &[u64]) -> bool
     requires { count ≤ 255 }
-    ensures { result ≡ besideWithin count words.now }
+    ensures { result ≡ beside_within count words.now }
 {
     if !places_within(count, words) {
         return false;

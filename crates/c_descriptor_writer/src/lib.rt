@@ -1,11 +1,11 @@
 // The descriptor writer over the C boundary: an item from the words of its step, and of what stands beside it.
 ghost use Rattle.std.specs.Prelude.{◌≡◌, ◌≤◌};
-ghost use Rattle.descriptor_measure.specs.Writing.{countBeside, descriptorMade};
+ghost use Rattle.descriptor_measure.specs.Writing.{count_beside, descriptor_made};
 ghost use Rattle.descriptor_writer.specs.Stores.{Writes};
-ghost use Rattle.c_descriptor_writer.specs.ItemGiven.{paddedWords, besideFrom, ownItem, wordsRefusal, descriptorRefusal, descriptorWordsMade};
-ghost use Rattle.c_descriptor_writer.specs.ItemWords.{itemSeen, hasEidr, besideThere};
-ghost use Rattle.c_command_writer.specs.Words.{flatWritten};
-ghost use Rattle.bit_stores.specs.Written.{answer_of, laterOf};
+ghost use Rattle.c_descriptor_writer.specs.ItemGiven.{padded_words, beside_from, own_item, words_refusal, descriptor_refusal, descriptor_words_made};
+ghost use Rattle.c_descriptor_writer.specs.ItemWords.{item_seen, has_eidr, beside_there};
+ghost use Rattle.c_command_writer.specs.Words.{flat_written};
+ghost use Rattle.bit_stores.specs.Written.{answer_of, later_of};
 
 use crate::beside::{
     BESIDE_WORDS, COMPONENTS, EACH, beside_from, beside_within, eidr_from, identifier_from,
@@ -33,7 +33,7 @@ const EIDR_TYPE: u64 = UPID_EIDR as u64;
 
 // How many components it has.
 fn count_in_descriptor(d: Descriptor) -> u8
-    ensures { result ≡ countBeside d }
+    ensures { result ≡ count_beside d }
 {
     let segmentation = match d {
         Descriptor::Avail(_) => return 0,
@@ -59,7 +59,7 @@ fn count_in_descriptor(d: Descriptor) -> u8
 
 // Refusal 33: are the words of the item those of its own flat form?
 fn is_own_item(d: Descriptor, words: &[u64]) -> bool
-    ensures { result ≡ ownItem d words.now }
+    ensures { result ≡ own_item d words.now }
 {
     let step = flat_step(Step {
         item: Item::Is(d),
@@ -71,7 +71,7 @@ fn is_own_item(d: Descriptor, words: &[u64]) -> bool
 }
 
 fn has_eidr(words: &[u64]) -> bool
-    ensures { result ≡ hasEidr words.now }
+    ensures { result ≡ has_eidr words.now }
 {
     if word_at(words, KIND) != 4 {
         return false;
@@ -82,7 +82,7 @@ fn has_eidr(words: &[u64]) -> bool
 // Refusal 33: are the words beside the item there, where it has an EIDR or `count` components? They would count as 0.
 fn is_beside_there(count: usize, words: &[u64], beside: &[u64]) -> bool
     requires { count ≤ 255 }
-    ensures { result ≡ besideThere count words.now beside.now }
+    ensures { result ≡ beside_there count words.now beside.now }
 {
     if has_eidr(words) {
         return BESIDE_WORDS <= beside.len();
@@ -95,7 +95,7 @@ fn is_beside_there(count: usize, words: &[u64], beside: &[u64]) -> bool
 
 // Refusals 32 and 33 of the words themselves; 0 for none.
 fn words_refusal(d: Descriptor, words: &[u64], beside: &[u64]) -> u64
-    ensures { result ≡ wordsRefusal d words.now beside.now }
+    ensures { result ≡ words_refusal d words.now beside.now }
 {
     let count = count_in_descriptor(d) as usize;
     if !is_item_within(words) {
@@ -115,7 +115,7 @@ fn words_refusal(d: Descriptor, words: &[u64], beside: &[u64]) -> u64
 
 // Refusal 31 of the words of an item: does their view, whatever the item's kind, lie in the lent bytes?
 fn is_item_seen(words: &[u64], lent: &[u8]) -> bool
-    ensures { result ≡ itemSeen words.now lent.now }
+    ensures { result ≡ item_seen words.now lent.now }
 {
     lies_in(
         lent,
@@ -128,7 +128,7 @@ fn is_item_seen(words: &[u64], lent: &[u8]) -> bool
 
 // Refusals 31 to 33 of the words themselves, in their order; 0 for none.
 pub fn descriptor_refusal(d: Descriptor, words: &[u64], beside: &[u64], lent: &[u8]) -> u64
-    ensures { result ≡ descriptorRefusal d words.now beside.now lent.now }
+    ensures { result ≡ descriptor_refusal d words.now beside.now lent.now }
 {
     if !is_item_seen(words, lent) {
         return 31;
@@ -146,7 +146,7 @@ fn write_given(
     target: &mut [u8],
 ) -> Written
     requires { count ≤ 255 }
-    ensures { Writes (descriptorMade d identifier (besideFrom count beside.now) lent.now) target.old target.new result }
+    ensures { Writes (descriptor_made d identifier (beside_from count beside.now) lent.now) target.old target.new result }
 {
     if count == 0 {
         let eidr = eidr_from(beside);
@@ -158,7 +158,7 @@ fn write_given(
 
 // The words of a step, 0 past the end of the slice.
 fn padded(words: &[u64]) -> [u64; STEP_WORDS]
-    ensures { result ≡ paddedWords words.now }
+    ensures { result ≡ padded_words words.now }
 {
     let mut out = [0u64; STEP_WORDS];
     let mut i: usize = 0;
@@ -171,8 +171,8 @@ fn padded(words: &[u64]) -> [u64; STEP_WORDS]
 
 // A descriptor from the target's first byte on, or a refusal: 31 to 34 or 36.
 fn write_from_words(words: &[u64], beside: &[u64], lent: &[u8], target: &mut [u8]) -> FlatWritten
-    ensures answer { result ≡ flatWritten (answer_of (descriptorWordsMade words.now beside.now lent.now) target.old) }
-    ensures bytes { target.new ≡ laterOf (descriptorWordsMade words.now beside.now lent.now) target.old }
+    ensures answer { result ≡ flat_written (answer_of (descriptor_words_made words.now beside.now lent.now) target.old) }
+    ensures bytes { target.new ≡ later_of (descriptor_words_made words.now beside.now lent.now) target.old }
 {
     let d = descriptor_given(words);
     let identifier = identifier_from(words);
@@ -194,8 +194,8 @@ pub fn write_descriptor_words(
     lent: &[u8],
     target: &mut [u8],
 ) -> FlatWritten
-    ensures answer { result ≡ flatWritten (answer_of (descriptorWordsMade words.now beside.now lent.now) target.old) }
-    ensures bytes { target.new ≡ laterOf (descriptorWordsMade words.now beside.now lent.now) target.old }
+    ensures answer { result ≡ flat_written (answer_of (descriptor_words_made words.now beside.now lent.now) target.old) }
+    ensures bytes { target.new ≡ later_of (descriptor_words_made words.now beside.now lent.now) target.old }
 {
     if words.len() < STEP_WORDS {
         let enough = padded(words);

@@ -1,10 +1,10 @@
 // The descriptor that words make, and refusals 32 and 33 of its words.
 ghost use Rattle.std.specs.Prelude.{◌≡◌, drop};
-ghost use Rattle.descriptor.specs.Segmentation.{deviceOf};
+ghost use Rattle.descriptor.specs.Segmentation.{device_of};
 ghost use Rattle.c_command_writer.specs.Words.{within, same};
-ghost use Rattle.c_descriptor_writer.specs.ItemGiven.{restrictionsIn, subSegmentsIn, segmentationIn, itemIn, restrictionsFrom};
-ghost use Rattle.c_descriptor_writer.specs.ItemWords.{itemWords, itemWidths};
-ghost use Rattle.c_descriptor_writer.specs.ItemGiven.{deliveryFrom, modeFrom, durationFrom, subSegmentsFrom, detailFrom, descriptorFrom, descriptorGiven};
+ghost use Rattle.c_descriptor_writer.specs.ItemGiven.{restrictions_in, sub_segments_in, segmentation_in, item_in, restrictions_from};
+ghost use Rattle.c_descriptor_writer.specs.ItemWords.{item_words, item_widths};
+ghost use Rattle.c_descriptor_writer.specs.ItemGiven.{delivery_from, mode_from, duration_from, sub_segments_from, detail_from, descriptor_from, descriptor_given};
 
 use c_command_writer::{are_four_same, are_four_within, are_same, word_at, words_from};
 use c_items::descriptors::{FlatItem, FlatTimeDescriptor};
@@ -62,7 +62,7 @@ pub(crate) const BYTES_AT: usize = 31;
 pub(crate) const BYTES_LEN: usize = 32;
 
 fn restrictions_in(words: &[u64]) -> FlatRestrictions
-    ensures { result ≡ restrictionsIn words.now }
+    ensures { result ≡ restrictions_in words.now }
 {
     FlatRestrictions {
         web_delivery_allowed_flag: word_at(words, WEB_DELIVERY),
@@ -73,7 +73,7 @@ fn restrictions_in(words: &[u64]) -> FlatRestrictions
 }
 
 fn sub_segments_in(words: &[u64]) -> FlatSubSegments
-    ensures { result ≡ subSegmentsIn words.now }
+    ensures { result ≡ sub_segments_in words.now }
 {
     FlatSubSegments {
         present: word_at(words, 24),
@@ -83,7 +83,7 @@ fn sub_segments_in(words: &[u64]) -> FlatSubSegments
 }
 
 fn segmentation_in(words: &[u64]) -> FlatSegmentation
-    ensures { result ≡ segmentationIn words.now }
+    ensures { result ≡ segmentation_in words.now }
 {
     FlatSegmentation {
         segmentation_event_id: word_at(words, EVENT_ID),
@@ -103,7 +103,7 @@ fn segmentation_in(words: &[u64]) -> FlatSegmentation
 }
 
 fn item_in(words: &[u64]) -> FlatItem
-    ensures { result ≡ itemIn words.now }
+    ensures { result ≡ item_in words.now }
 {
     FlatItem {
         kind: word_at(words, KIND),
@@ -125,7 +125,7 @@ fn item_in(words: &[u64]) -> FlatItem
 
 // Refusal 32 of the identifier and of the words of an item, in their order: is each within its width?
 pub(crate) fn is_item_within(words: &[u64]) -> bool
-    ensures { result ≡ within itemWidths (drop 5 words.now) }
+    ensures { result ≡ within item_widths (drop 5 words.now) }
 {
     // identifier; kind, provider_avail_id, preroll
     if !are_four_within(32, 64, 32, 8, words_from(words, IDENTIFIER)) {
@@ -157,7 +157,7 @@ pub(crate) fn is_item_within(words: &[u64]) -> bool
 
 // Refusal 33 of the words of an item from sub_segments_expected on: are they those of a flat form?
 fn is_flat_end(i: FlatItem, words: &[u64]) -> bool
-    ensures { result ≡ same (drop 20 (itemWords i)) (drop 26 words.now) }
+    ensures { result ≡ same (drop 20 (item_words i)) (drop 26 words.now) }
 {
     let s = i.segmentation;
     let subs = s.sub_segments;
@@ -178,7 +178,7 @@ fn is_flat_end(i: FlatItem, words: &[u64]) -> bool
 
 // From its count of components on.
 fn is_flat_behind(i: FlatItem, words: &[u64]) -> bool
-    ensures { result ≡ same (drop 12 (itemWords i)) (drop 18 words.now) }
+    ensures { result ≡ same (drop 12 (item_words i)) (drop 18 words.now) }
 {
     let s = i.segmentation;
     let subs = s.sub_segments;
@@ -205,7 +205,7 @@ fn is_flat_behind(i: FlatItem, words: &[u64]) -> bool
 
 // Are the words those of this flat item?
 pub(crate) fn is_flat_item(i: FlatItem, words: &[u64]) -> bool
-    ensures { result ≡ same (itemWords i) (drop 6 words.now) }
+    ensures { result ≡ same (item_words i) (drop 6 words.now) }
 {
     let s = i.segmentation;
     let restrictions = s.delivery_restrictions;
@@ -242,7 +242,7 @@ pub(crate) fn is_flat_item(i: FlatItem, words: &[u64]) -> bool
 // ---- the value that it makes
 
 fn device_from(bits: u64) -> DeviceRestrictions
-    ensures { result ≡ deviceOf bits }
+    ensures { result ≡ device_of bits }
 {
     match bits {
         0 => DeviceRestrictions::RestrictGroup0,
@@ -253,7 +253,7 @@ fn device_from(bits: u64) -> DeviceRestrictions
 }
 
 fn restrictions_from(r: FlatRestrictions) -> DeliveryRestrictions
-    ensures { result ≡ restrictionsFrom r }
+    ensures { result ≡ restrictions_from r }
 {
     DeliveryRestrictions {
         web_delivery_allowed_flag: r.web_delivery_allowed_flag == 1,
@@ -264,7 +264,7 @@ fn restrictions_from(r: FlatRestrictions) -> DeliveryRestrictions
 }
 
 fn delivery_from(s: FlatSegmentation) -> DeliveryRestrictionFlags
-    ensures { result ≡ deliveryFrom s }
+    ensures { result ≡ delivery_from s }
 {
     if s.delivery_not_restricted_flag == 1 {
         return DeliveryRestrictionFlags::None;
@@ -274,7 +274,7 @@ fn delivery_from(s: FlatSegmentation) -> DeliveryRestrictionFlags
 }
 
 fn mode_from(s: FlatSegmentation) -> SegmentationMode
-    ensures { result ≡ modeFrom s }
+    ensures { result ≡ mode_from s }
 {
     if s.program_segmentation_flag == 1 {
         return SegmentationMode::Program;
@@ -283,7 +283,7 @@ fn mode_from(s: FlatSegmentation) -> SegmentationMode
 }
 
 fn duration_from(s: FlatSegmentation) -> SegmentationDuration
-    ensures { result ≡ durationFrom s }
+    ensures { result ≡ duration_from s }
 {
     if s.segmentation_duration_flag == 1 {
         return SegmentationDuration::Ticks(s.segmentation_duration);
@@ -292,7 +292,7 @@ fn duration_from(s: FlatSegmentation) -> SegmentationDuration
 }
 
 fn sub_segments_from(s: FlatSubSegments) -> SubSegments
-    ensures { result ≡ subSegmentsFrom s }
+    ensures { result ≡ sub_segments_from s }
 {
     if s.present == 1 {
         return SubSegments::Is(SubSegment {
@@ -304,7 +304,7 @@ fn sub_segments_from(s: FlatSubSegments) -> SubSegments
 }
 
 fn detail_from(s: FlatSegmentation, bytes: View) -> SegmentationDetail
-    ensures { result ≡ detailFrom s bytes }
+    ensures { result ≡ detail_from s bytes }
 {
     let subs = s.sub_segments;
     SegmentationDetail {
@@ -326,7 +326,7 @@ fn detail_from(s: FlatSegmentation, bytes: View) -> SegmentationDetail
 }
 
 fn descriptor_from(i: FlatItem) -> Descriptor
-    ensures { result ≡ descriptorFrom i }
+    ensures { result ≡ descriptor_from i }
 {
     let kind = i.kind;
     let s = i.segmentation;
@@ -366,7 +366,7 @@ fn descriptor_from(i: FlatItem) -> Descriptor
 
 // The descriptor that the words of a step make.
 pub(crate) fn descriptor_given(words: &[u64]) -> Descriptor
-    ensures { result ≡ descriptorGiven words.now }
+    ensures { result ≡ descriptor_given words.now }
 {
     descriptor_from(item_in(words))
 }

@@ -1,8 +1,8 @@
 -- The flat form of a step over a loop, and of what stands beside an item. What belongs to another kind of item is 0.
 use Rattle.std.specs.Prelude.{ℕ, List, [], map}
 use Rattle.table.specs.Bits.{bits_of, field}
-use Rattle.names.specs.Flags.{restrictionsBits}
-use Rattle.names.specs.Segmentation.{segmentationNumber}
+use Rattle.names.specs.Flags.{restrictions_bits}
+use Rattle.names.specs.Segmentation.{segmentation_number}
 use Rattle.descriptor.specs.Segmentation.{count_of, ticks}
 use Rattle.descriptor.specs.declared.Descriptor.{Descriptor}
 use Rattle.descriptor.specs.declared.Descriptor.TheVariants.{Avail, Dtmf, Segmentation, Time, Reserved}
@@ -13,7 +13,7 @@ use Rattle.descriptor.specs.declared.segmentation.DescriptorDetail.{DescriptorDe
 use Rattle.descriptor.specs.declared.segmentation.DescriptorDetail.TheVariants.{Cancel, Active}
 use Rattle.descriptor.specs.declared.segmentation.SegmentationDetail.{SegmentationDetail}
 use Rattle.descriptor.specs.declared.segmentation.SubSegments.{SubSegments}
-use Rattle.c_section.specs.Flat.{flatView}
+use Rattle.c_section.specs.Flat.{flat_view}
 use Rattle.c_section.specs.declared.FlatView.{FlatView}
 use Rattle.descriptor_loop.specs.Items.{number_of, values_of}
 use Rattle.descriptor_loop.specs.declared.Item.{Item}
@@ -21,7 +21,7 @@ use Rattle.descriptor_loop.specs.declared.Item.TheVariants.{End, Refused, Is}
 use Rattle.descriptor_loop.specs.declared.Step.{Step}
 use Rattle.descriptor_loop.specs.declared.reading.Reading.{Reading}
 use Rattle.table.specs.Lent.{no_view}
-use Rattle.table.specs.Table.{flagNumber}
+use Rattle.table.specs.Table.{flag_number}
 use Rattle.c_items.specs.FlatUpid.{three}
 use Rattle.c_items.specs.declared.beside.FlatBeside.{FlatBeside}
 use Rattle.c_items.specs.declared.beside.FlatSegmentationComponent.{FlatSegmentationComponent}
@@ -33,68 +33,68 @@ use Rattle.c_items.specs.declared.segmentations.FlatSubSegments.{FlatSubSegments
 use Rattle.c_items.specs.declared.steps.FlatStep.{FlatStep}
 
 -- ---- a segmentation descriptor
-unfoldable pub flatRestrictions : DeliveryRestrictionFlags → FlatRestrictions
-flatRestrictions DeliveryRestrictionFlags.None =
+unfoldable pub flat_restrictions : DeliveryRestrictionFlags → FlatRestrictions
+flat_restrictions DeliveryRestrictionFlags.None =
     record { web_delivery_allowed_flag = 0; no_regional_blackout_flag = 0; archive_allowed_flag = 0; device_restrictions = 0 }
-flatRestrictions (DeliveryRestrictionFlags.DeliveryRestrictions d) =
+flat_restrictions (DeliveryRestrictionFlags.DeliveryRestrictions d) =
     record {
-      web_delivery_allowed_flag = flagNumber d.web_delivery_allowed_flag;
-      no_regional_blackout_flag = flagNumber d.no_regional_blackout_flag;
-      archive_allowed_flag = flagNumber d.archive_allowed_flag;
-      device_restrictions = restrictionsBits d.device_restrictions;
+      web_delivery_allowed_flag = flag_number d.web_delivery_allowed_flag;
+      no_regional_blackout_flag = flag_number d.no_regional_blackout_flag;
+      archive_allowed_flag = flag_number d.archive_allowed_flag;
+      device_restrictions = restrictions_bits d.device_restrictions;
     }
 
-unfoldable pub flatSubSegments : SubSegments → FlatSubSegments
-flatSubSegments SubSegments.Absent = record { present = 0; sub_segment_num = 0; sub_segments_expected = 0 }
-flatSubSegments (SubSegments.Is x) =
+unfoldable pub flat_sub_segments : SubSegments → FlatSubSegments
+flat_sub_segments SubSegments.Absent = record { present = 0; sub_segment_num = 0; sub_segments_expected = 0 }
+flat_sub_segments (SubSegments.Is x) =
     record { present = 1; sub_segment_num = x.sub_segment_num; sub_segments_expected = x.sub_segments_expected }
 
-unfoldable pub activeSegmentation : ℕ → SegmentationDetail → FlatSegmentation
-activeSegmentation event i =
+unfoldable pub active_segmentation : ℕ → SegmentationDetail → FlatSegmentation
+active_segmentation event i =
     record {
       segmentation_event_id = event;
       segmentation_event_cancel_indicator = 0;
-      program_segmentation_flag = flagNumber i.program_segmentation_flag;
-      segmentation_duration_flag = flagNumber i.segmentation_duration_flag;
-      delivery_not_restricted_flag = flagNumber i.delivery_not_restricted_flag;
-      delivery_restrictions = flatRestrictions i.delivery_restrictions;
+      program_segmentation_flag = flag_number i.program_segmentation_flag;
+      segmentation_duration_flag = flag_number i.segmentation_duration_flag;
+      delivery_not_restricted_flag = flag_number i.delivery_not_restricted_flag;
+      delivery_restrictions = flat_restrictions i.delivery_restrictions;
       component_count = count_of i.segmentation_mode;
       segmentation_duration = ticks i.segmentation_duration;
       segmentation_upid_type = i.segmentation_upid.upid_type;
-      segmentation_type_id = segmentationNumber i.segmentation_type_id;
+      segmentation_type_id = segmentation_number i.segmentation_type_id;
       segment_num = i.segment_num;
       segments_expected = i.segments_expected;
-      sub_segments = flatSubSegments i.sub_segments;
+      sub_segments = flat_sub_segments i.sub_segments;
     }
 
 -- without what follows the cancel indicator
-unfoldable pub segmentationHead : ℕ → ℕ → FlatSegmentation
-segmentationHead event cancel =
+unfoldable pub segmentation_head : ℕ → ℕ → FlatSegmentation
+segmentation_head event cancel =
     record {
       segmentation_event_id = event;
       segmentation_event_cancel_indicator = cancel;
       program_segmentation_flag = 0;
       segmentation_duration_flag = 0;
       delivery_not_restricted_flag = 0;
-      delivery_restrictions = flatRestrictions DeliveryRestrictionFlags.None;
+      delivery_restrictions = flat_restrictions DeliveryRestrictionFlags.None;
       component_count = 0;
       segmentation_duration = 0;
       segmentation_upid_type = 0;
       segmentation_type_id = 0;
       segment_num = 0;
       segments_expected = 0;
-      sub_segments = flatSubSegments SubSegments.Absent;
+      sub_segments = flat_sub_segments SubSegments.Absent;
     }
 
 -- ---- an item: 0 the end, 1 avail, 2 DTMF, 3 cancelled segmentation, 4 segmentation, 5 time, 6 reserved, 7 refused
-abbrev pub flatTimeDescriptor : TimeDescriptor → FlatTimeDescriptor
-flatTimeDescriptor t = record { tai_seconds = t.tai_seconds; tai_nanoseconds = t.tai_nanoseconds; utc_offset = t.utc_offset }
+abbrev pub flat_time_descriptor : TimeDescriptor → FlatTimeDescriptor
+flat_time_descriptor t = record { tai_seconds = t.tai_seconds; tai_nanoseconds = t.tai_nanoseconds; utc_offset = t.utc_offset }
 
-abbrev pub noTimes : FlatTimeDescriptor
-noTimes = record { tai_seconds = 0; tai_nanoseconds = 0; utc_offset = 0 }
+abbrev pub no_times : FlatTimeDescriptor
+no_times = record { tai_seconds = 0; tai_nanoseconds = 0; utc_offset = 0 }
 
-abbrev pub itemWith : ℕ → ℕ → ℕ → FlatSegmentation → FlatTimeDescriptor → ℕ → FlatView → FlatItem
-itemWith kind avail preroll segmentation times tag bytes =
+abbrev pub item_with : ℕ → ℕ → ℕ → FlatSegmentation → FlatTimeDescriptor → ℕ → FlatView → FlatItem
+item_with kind avail preroll segmentation times tag bytes =
     record {
       kind = kind;
       provider_avail_id = avail;
@@ -105,57 +105,57 @@ itemWith kind avail preroll segmentation times tag bytes =
       bytes = bytes;
     }
 
-unfoldable pub segmentationItem : ℕ → DescriptorDetail → FlatItem
-segmentationItem event Cancel = itemWith 3 0 0 (segmentationHead event 1) noTimes 0 (flatView no_view)
-segmentationItem event (Active i) = itemWith 4 0 0 (activeSegmentation event i) noTimes 0 (flatView i.segmentation_upid.bytes)
+unfoldable pub segmentation_item : ℕ → DescriptorDetail → FlatItem
+segmentation_item event Cancel = item_with 3 0 0 (segmentation_head event 1) no_times 0 (flat_view no_view)
+segmentation_item event (Active i) = item_with 4 0 0 (active_segmentation event i) no_times 0 (flat_view i.segmentation_upid.bytes)
 
-unfoldable pub flatDescriptor : Descriptor → FlatItem
-flatDescriptor (Avail x) = itemWith 1 x.provider_avail_id 0 (segmentationHead 0 0) noTimes 0 (flatView no_view)
-flatDescriptor (Dtmf x) = itemWith 2 0 x.preroll (segmentationHead 0 0) noTimes 0 (flatView x.dtmf_chars)
-flatDescriptor (Segmentation x) = segmentationItem x.segmentation_event_id x.descriptor_detail
-flatDescriptor (Time x) = itemWith 5 0 0 (segmentationHead 0 0) (flatTimeDescriptor x) 0 (flatView no_view)
-flatDescriptor (Reserved tag bytes) = itemWith 6 0 0 (segmentationHead 0 0) noTimes tag (flatView bytes)
+unfoldable pub flat_descriptor : Descriptor → FlatItem
+flat_descriptor (Avail x) = item_with 1 x.provider_avail_id 0 (segmentation_head 0 0) no_times 0 (flat_view no_view)
+flat_descriptor (Dtmf x) = item_with 2 0 x.preroll (segmentation_head 0 0) no_times 0 (flat_view x.dtmf_chars)
+flat_descriptor (Segmentation x) = segmentation_item x.segmentation_event_id x.descriptor_detail
+flat_descriptor (Time x) = item_with 5 0 0 (segmentation_head 0 0) (flat_time_descriptor x) 0 (flat_view no_view)
+flat_descriptor (Reserved tag bytes) = item_with 6 0 0 (segmentation_head 0 0) no_times tag (flat_view bytes)
 
-unfoldable pub blankItem : ℕ → FlatItem
-blankItem kind = itemWith kind 0 0 (segmentationHead 0 0) noTimes 0 (flatView no_view)
+unfoldable pub blank_item : ℕ → FlatItem
+blank_item kind = item_with kind 0 0 (segmentation_head 0 0) no_times 0 (flat_view no_view)
 
-unfoldable pub flatItem : Item → FlatItem
-flatItem End = blankItem 0
-flatItem (Refused r) = blankItem 7
-flatItem (Is d) = flatDescriptor d
+unfoldable pub flat_item : Item → FlatItem
+flat_item End = blank_item 0
+flat_item (Refused r) = blank_item 7
+flat_item (Is d) = flat_descriptor d
 
 -- ---- a step
-unfoldable pub refusalIn : Item → ℕ
-refusalIn End = 0
-refusalIn (Refused r) = number_of r
-refusalIn (Is d) = 0
+unfoldable pub refusal_in : Item → ℕ
+refusal_in End = 0
+refusal_in (Refused r) = number_of r
+refusal_in (Is d) = 0
 
-unfoldable pub valuesIn : Item → List ℕ
-valuesIn End = three []
-valuesIn (Refused r) = three (values_of r)
-valuesIn (Is d) = three []
+unfoldable pub values_in : Item → List ℕ
+values_in End = three []
+values_in (Refused r) = three (values_of r)
+values_in (Is d) = three []
 
 -- the identifier's four bytes as a number
-unfoldable pub flatStep : Step → FlatStep
-flatStep s =
+unfoldable pub flat_step : Step → FlatStep
+flat_step s =
     record {
-      refusal = refusalIn s.item;
-      values = valuesIn s.item;
+      refusal = refusal_in s.item;
+      values = values_in s.item;
       next = s.next;
       identifier = field (bits_of s.identifier) 0 32;
-      item = flatItem s.item;
+      item = flat_item s.item;
     }
 
 -- ---- what stands beside an item
-unfoldable pub flatComponent : SegmentationComponent → FlatSegmentationComponent
-flatComponent c = record { component_tag = c.component_tag; pts_offset = c.pts_offset }
+unfoldable pub flat_component : SegmentationComponent → FlatSegmentationComponent
+flat_component c = record { component_tag = c.component_tag; pts_offset = c.pts_offset }
 
-unfoldable pub flatBeside : Reading → FlatBeside
-flatBeside r =
+unfoldable pub flat_beside : Reading → FlatBeside
+flat_beside r =
     record {
-      refusal = refusalIn r.step.item;
-      values = valuesIn r.step.item;
-      count = (flatItem r.step.item).segmentation.component_count;
-      components = map flatComponent r.beside.components;
+      refusal = refusal_in r.step.item;
+      values = values_in r.step.item;
+      count = (flat_item r.step.item).segmentation.component_count;
+      components = map flat_component r.beside.components;
       eidr = r.beside.eidr;
     }

@@ -1,7 +1,7 @@
 // What stands beside an item: the components and the EIDR of a segmentation descriptor.
 ghost use Rattle.std.specs.Prelude.{◌≡◌, map};
-ghost use Rattle.c_items.specs.FlatItem.{flatComponent, flatBeside};
-ghost use Rattle.c_items.specs.Private.{noComponents};
+ghost use Rattle.c_items.specs.FlatItem.{flat_component, flat_beside};
+ghost use Rattle.c_items.specs.Private.{no_components};
 
 use crate::descriptors::flat_item;
 use crate::steps::{refusal_number, refusal_values};
@@ -28,7 +28,7 @@ pub struct FlatBeside {
 }
 
 fn flat_component(c: SegmentationComponent) -> FlatSegmentationComponent
-    ensures { result ≡ flatComponent c }
+    ensures { result ≡ flat_component c }
 {
     FlatSegmentationComponent {
         component_tag: c.component_tag as u64,
@@ -37,7 +37,7 @@ fn flat_component(c: SegmentationComponent) -> FlatSegmentationComponent
 }
 
 fn no_components() -> [FlatSegmentationComponent; MAX_COMPONENTS]
-    ensures { result ≡ noComponents }
+    ensures { result ≡ no_components }
 {
     [FlatSegmentationComponent {
         component_tag: 0,
@@ -48,7 +48,7 @@ fn no_components() -> [FlatSegmentationComponent; MAX_COMPONENTS]
 fn flat_components(
     cs: [SegmentationComponent; MAX_COMPONENTS],
 ) -> [FlatSegmentationComponent; MAX_COMPONENTS]
-    ensures { result ≡ map flatComponent cs }
+    ensures { result ≡ map flat_component cs }
 {
     let mut out = no_components();
     let mut i: usize = 0;
@@ -61,7 +61,7 @@ fn flat_components(
 }
 
 pub fn flat_beside(reading: Reading) -> FlatBeside
-    ensures { result ≡ flatBeside reading }
+    ensures { result ≡ flat_beside reading }
 {
     let step = reading.step;
     let item = step.item;

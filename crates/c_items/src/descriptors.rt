@@ -2,7 +2,7 @@
 ghost use Rattle.std.specs.Prelude.{◌≡◌};
 ghost use Rattle.descriptor.specs.declared.Descriptor.TheVariants.{Avail, Dtmf, Time, Reserved};
 ghost use Rattle.descriptor.specs.declared.segmentation.DescriptorDetail.TheVariants.{Cancel, Active};
-ghost use Rattle.c_items.specs.FlatItem.{flatTimeDescriptor, blankItem, segmentationItem, flatDescriptor, flatItem};
+ghost use Rattle.c_items.specs.FlatItem.{flat_time_descriptor, blank_item, segmentation_item, flat_descriptor, flat_item};
 
 use crate::segmentations::{FlatSegmentation, active_segmentation, segmentation_head};
 use c_section::{FlatView, flat_view};
@@ -34,7 +34,7 @@ pub struct FlatItem {
 }
 
 fn flat_time_descriptor(t: TimeDescriptor) -> FlatTimeDescriptor
-    ensures { result ≡ flatTimeDescriptor t }
+    ensures { result ≡ flat_time_descriptor t }
 {
     FlatTimeDescriptor {
         tai_seconds: t.tai_seconds,
@@ -45,7 +45,7 @@ fn flat_time_descriptor(t: TimeDescriptor) -> FlatTimeDescriptor
 
 // An item of a kind, without the parts that the others have.
 fn blank_item(kind: u64) -> FlatItem
-    ensures { result ≡ blankItem kind }
+    ensures { result ≡ blank_item kind }
 {
     FlatItem {
         kind,
@@ -63,7 +63,7 @@ fn blank_item(kind: u64) -> FlatItem
 }
 
 fn avail_item(x: AvailDescriptor) -> FlatItem
-    ensures { result ≡ flatDescriptor (Avail x) }
+    ensures { result ≡ flat_descriptor (Avail x) }
 {
     let mut out = blank_item(1);
     out.provider_avail_id = x.provider_avail_id as u64;
@@ -71,7 +71,7 @@ fn avail_item(x: AvailDescriptor) -> FlatItem
 }
 
 fn dtmf_item(x: DTMFDescriptor) -> FlatItem
-    ensures { result ≡ flatDescriptor (Dtmf x) }
+    ensures { result ≡ flat_descriptor (Dtmf x) }
 {
     let chars = x.dtmf_chars;
     let mut out = blank_item(2);
@@ -81,7 +81,7 @@ fn dtmf_item(x: DTMFDescriptor) -> FlatItem
 }
 
 fn cancelled_item(event: u64) -> FlatItem
-    ensures { result ≡ segmentationItem event Cancel }
+    ensures { result ≡ segmentation_item event Cancel }
 {
     let mut out = blank_item(3);
     out.segmentation = segmentation_head(event, 1);
@@ -89,7 +89,7 @@ fn cancelled_item(event: u64) -> FlatItem
 }
 
 fn active_item(event: u64, i: SegmentationDetail) -> FlatItem
-    ensures { result ≡ segmentationItem event (Active i) }
+    ensures { result ≡ segmentation_item event (Active i) }
 {
     let upid = i.segmentation_upid;
     let bytes = upid.bytes;
@@ -100,7 +100,7 @@ fn active_item(event: u64, i: SegmentationDetail) -> FlatItem
 }
 
 fn time_item(x: TimeDescriptor) -> FlatItem
-    ensures { result ≡ flatDescriptor (Time x) }
+    ensures { result ≡ flat_descriptor (Time x) }
 {
     let mut out = blank_item(5);
     out.time = flat_time_descriptor(x);
@@ -108,7 +108,7 @@ fn time_item(x: TimeDescriptor) -> FlatItem
 }
 
 fn reserved_item(tag: u8, private_bytes: View) -> FlatItem
-    ensures { result ≡ flatDescriptor (Reserved tag private_bytes) }
+    ensures { result ≡ flat_descriptor (Reserved tag private_bytes) }
 {
     let mut out = blank_item(6);
     out.splice_descriptor_tag = tag as u64;
@@ -118,7 +118,7 @@ fn reserved_item(tag: u8, private_bytes: View) -> FlatItem
 
 // Each arm returns: its words are then stored where they go, and are not merged with those of the other arms.
 pub(crate) fn flat_item(item: Item) -> FlatItem
-    ensures { result ≡ flatItem item }
+    ensures { result ≡ flat_item item }
 {
     match item {
         Item::End => return blank_item(0),

@@ -1,7 +1,7 @@
 // Segmentation descriptors.
 ghost use Rattle.std.specs.Prelude.{◌≡◌};
 ghost use Rattle.descriptor.specs.Segmentation.{count_of, ticks};
-ghost use Rattle.c_items.specs.FlatItem.{flatRestrictions, flatSubSegments, segmentationHead, activeSegmentation};
+ghost use Rattle.c_items.specs.FlatItem.{flat_restrictions, flat_sub_segments, segmentation_head, active_segmentation};
 
 use c_section::flat_flag;
 use descriptor::segmentation::{
@@ -46,7 +46,7 @@ pub struct FlatSegmentation {
 }
 
 fn flat_restrictions(flags: DeliveryRestrictionFlags) -> FlatRestrictions
-    ensures { result ≡ flatRestrictions flags }
+    ensures { result ≡ flat_restrictions flags }
 {
     match flags {
         DeliveryRestrictionFlags::None => FlatRestrictions {
@@ -68,7 +68,7 @@ fn flat_restrictions(flags: DeliveryRestrictionFlags) -> FlatRestrictions
 }
 
 fn flat_sub_segments(s: SubSegments) -> FlatSubSegments
-    ensures { result ≡ flatSubSegments s }
+    ensures { result ≡ flat_sub_segments s }
 {
     match s {
         SubSegments::Absent => FlatSubSegments {
@@ -104,7 +104,7 @@ fn component_count(m: SegmentationMode) -> u64
 
 // A descriptor without its detail.
 pub(crate) fn segmentation_head(event: u64, cancel: u64) -> FlatSegmentation
-    ensures { result ≡ segmentationHead event cancel }
+    ensures { result ≡ segmentation_head event cancel }
 {
     FlatSegmentation {
         segmentation_event_id: event,
@@ -124,7 +124,7 @@ pub(crate) fn segmentation_head(event: u64, cancel: u64) -> FlatSegmentation
 }
 
 pub(crate) fn active_segmentation(event: u64, i: SegmentationDetail) -> FlatSegmentation
-    ensures { result ≡ activeSegmentation event i }
+    ensures { result ≡ active_segmentation event i }
 {
     let restrictions = i.delivery_restrictions;
     let mode = i.segmentation_mode;

@@ -1,6 +1,6 @@
 // A step over a loop.
 ghost use Rattle.std.specs.Prelude.{◌≡◌};
-ghost use Rattle.c_items.specs.FlatItem.{refusalIn, valuesIn, flatStep};
+ghost use Rattle.c_items.specs.FlatItem.{refusal_in, values_in, flat_step};
 
 use crate::descriptors::{FlatItem, flat_item};
 use crate::refusals::{item_number, item_values};
@@ -19,7 +19,7 @@ pub struct FlatStep {
 }
 
 pub(crate) fn refusal_number(item: Item) -> u64
-    ensures { result ≡ refusalIn item }
+    ensures { result ≡ refusal_in item }
 {
     match item {
         Item::End => 0,
@@ -29,7 +29,7 @@ pub(crate) fn refusal_number(item: Item) -> u64
 }
 
 pub(crate) fn refusal_values(item: Item) -> [u64; 3]
-    ensures { result ≡ valuesIn item }
+    ensures { result ≡ values_in item }
 {
     match item {
         Item::End => [0, 0, 0],
@@ -39,7 +39,7 @@ pub(crate) fn refusal_values(item: Item) -> [u64; 3]
 }
 
 pub fn flat_step(s: Step) -> FlatStep
-    ensures { result ≡ flatStep s }
+    ensures { result ≡ flat_step s }
 {
     let item = s.item;
     let identifier = s.identifier;

@@ -1,6 +1,6 @@
 // UPIDs, and the parts of a MID.
 ghost use Rattle.std.specs.Prelude.{◌≡◌, map};
-ghost use Rattle.c_items.specs.FlatUpid.{flatPart, noParts, flatUpid};
+ghost use Rattle.c_items.specs.FlatUpid.{flat_part, no_parts, flat_upid};
 
 use crate::refusals::{number, values};
 use upid::{MAX_PARTS, Part, PartList, Upid, UpidRead};
@@ -27,7 +27,7 @@ pub struct FlatUpid {
 }
 
 fn flat_part(p: Part) -> FlatPart
-    ensures { result ≡ flatPart p }
+    ensures { result ≡ flat_part p }
 {
     FlatPart {
         upid_type: p.upid_type as u64,
@@ -38,7 +38,7 @@ fn flat_part(p: Part) -> FlatPart
 }
 
 fn no_parts() -> [FlatPart; MAX_PARTS]
-    ensures { result ≡ noParts }
+    ensures { result ≡ no_parts }
 {
     [FlatPart {
         upid_type: 0,
@@ -49,7 +49,7 @@ fn no_parts() -> [FlatPart; MAX_PARTS]
 }
 
 fn flat_parts(ps: [Part; MAX_PARTS]) -> [FlatPart; MAX_PARTS]
-    ensures { result ≡ map flatPart ps }
+    ensures { result ≡ map flat_part ps }
 {
     let mut out = no_parts();
     let mut i: usize = 0;
@@ -74,7 +74,7 @@ pub(crate) fn flat_eidr(e: [u8; 12]) -> [u64; 12]
 }
 
 pub fn flat_upid(u: Upid) -> FlatUpid
-    ensures { result ≡ flatUpid u }
+    ensures { result ≡ flat_upid u }
 {
     let read = u.read;
     match read {

@@ -2,8 +2,8 @@
 // behind the state's are not looked at.
 ghost use Rattle.std.specs.Prelude.{◌≡◌, get_or, set};
 ghost use Rattle.transport_packet.specs.Packet.{number_of};
-ghost use Rattle.transport.specs.Assembler.{freshAssembler, holding, fedOf, taken_of};
-ghost use Rattle.c_packet.specs.PacketWords.{stateIn, keptIn, fedNumber, keptFed, takenNumber, keptTaken};
+ghost use Rattle.transport.specs.Assembler.{fresh_assembler, holding, fed_of, taken_of};
+ghost use Rattle.c_packet.specs.PacketWords.{state_in, kept_in, fed_number, kept_fed, taken_number, kept_taken};
 
 use transport::{Assembler, Fed, Taken, feed, take};
 use transport_packet::packet::Refusal;
@@ -52,7 +52,7 @@ fn put_word(words: &mut [u64], at: usize, v: usize)
 
 // Where all four words are there, their places are tested once.
 fn state_in(words: &[u64]) -> Assembler
-    ensures { result ≡ stateIn words.now }
+    ensures { result ≡ state_in words.now }
 {
     if STATE_WORDS <= words.len() {
         return Assembler {
@@ -71,7 +71,7 @@ fn state_in(words: &[u64]) -> Assembler
 }
 
 fn keep(words: &mut [u64], a: Assembler)
-    ensures { words.new ≡ keptIn words.old a }
+    ensures { words.new ≡ kept_in words.old a }
 {
     if STATE_WORDS <= words.len() {
         words[PID] = a.pid as u64;
@@ -88,7 +88,7 @@ fn keep(words: &mut [u64], a: Assembler)
 
 // What `take` changes of the state: the PID and the counter stay.
 fn keep_place(words: &mut [u64], held: usize, at: usize)
-    ensures { words.new ≡ keptIn words.old (holding (stateIn words.old) held at) }
+    ensures { words.new ≡ kept_in words.old (holding (state_in words.old) held at) }
 {
     if STATE_WORDS <= words.len() {
         words[HELD] = held as u64;
@@ -101,16 +101,16 @@ fn keep_place(words: &mut [u64], held: usize, at: usize)
 
 // The state before the first packet of a PID.
 pub fn start_words(pid: u64, words: &mut [u64])
-    ensures { words.new ≡ keptIn words.old (freshAssembler pid) }
+    ensures { words.new ≡ kept_in words.old (fresh_assembler pid) }
 {
     keep(words, transport::fresh(pid as usize))
 }
 
 // Takes a packet in: 0, or the number of its refusal, with which no word and no byte of the buffer changes.
 pub fn feed_words(words: &mut [u64], packet: &[u8], buffer: &mut [u8]) -> u64
-    ensures answer { result ≡ fedNumber (fedOf (stateIn words.old) packet.now buffer.old).answer }
-    ensures state { words.new ≡ keptFed words.old (fedOf (stateIn words.old) packet.now buffer.old).answer }
-    ensures bytes { buffer.new ≡ (fedOf (stateIn words.old) packet.now buffer.old).buffer }
+    ensures answer { result ≡ fed_number (fed_of (state_in words.old) packet.now buffer.old).answer }
+    ensures state { words.new ≡ kept_fed words.old (fed_of (state_in words.old) packet.now buffer.old).answer }
+    ensures bytes { buffer.new ≡ (fed_of (state_in words.old) packet.now buffer.old).buffer }
 {
     let fed = feed(state_in(words), packet, buffer);
     match fed {
@@ -124,9 +124,9 @@ pub fn feed_words(words: &mut [u64], packet: &[u8], buffer: &mut [u8]) -> u64
 
 // The length of the next section that the packet finishes, which stands at the buffer's start; or 0.
 pub fn take_words(words: &mut [u64], packet: &[u8], buffer: &mut [u8]) -> u64
-    ensures answer { result ≡ takenNumber (taken_of (stateIn words.old) packet.now buffer.old).answer }
-    ensures state { words.new ≡ keptTaken words.old (taken_of (stateIn words.old) packet.now buffer.old).answer }
-    ensures bytes { buffer.new ≡ (taken_of (stateIn words.old) packet.now buffer.old).buffer }
+    ensures answer { result ≡ taken_number (taken_of (state_in words.old) packet.now buffer.old).answer }
+    ensures state { words.new ≡ kept_taken words.old (taken_of (state_in words.old) packet.now buffer.old).answer }
+    ensures bytes { buffer.new ≡ (taken_of (state_in words.old) packet.now buffer.old).buffer }
 {
     let taken = take(state_in(words), packet, buffer);
     match taken {

@@ -2,25 +2,25 @@
 use Prim.Native.Nat.{ℕ}
 use mathlib.Core.List.{List}
 use mathlib.Core.Path.{◌≡◌, sym}
-use Rattle.header.specs.Header.{headerOf}
-use Rattle.header.proofs.Headers.{header-named, header-missing}
-use Rattle.header_numbers.specs.Numbers.{numbersRead}
+use Rattle.header.specs.Header.{header_of}
+use Rattle.header.proofs.Headers.{header_named, header_missing}
+use Rattle.header_numbers.specs.Numbers.{numbers_read}
 use Rattle.header_numbers.specs.declared.HeaderNumbers.{HeaderNumbers}
 use Rattle.header_numbers.specs.declared.NumbersRead.{NumbersRead}
-use Rattle.names.specs.Algorithm.{algorithmNumber, algorithmOf}
-use Rattle.names.specs.Command.{commandNumber, commandTypeOf}
-use Rattle.names.proofs.Algorithms.{algorithm-laws}
-use Rattle.names.proofs.Commands.{command-laws}
-use Rattle.table.specs.Table.{flagNumber}
-use Rattle.c_section.specs.Flat.{flatHeader, no_header, flatHeaderRead}
+use Rattle.names.specs.Algorithm.{algorithm_number, algorithm_of}
+use Rattle.names.specs.Command.{command_number, command_type_of}
+use Rattle.names.proofs.Algorithms.{algorithm_laws}
+use Rattle.names.proofs.Commands.{command_laws}
+use Rattle.table.specs.Table.{flag_number}
+use Rattle.c_section.specs.Flat.{flat_header, no_header, flat_header_read}
 use Rattle.c_section.specs.declared.headers.FlatHeader.{FlatHeader}
 
 module _ (s : List ℕ) where
-  pub flat-too-short : (h : FlatHeader) → NumbersRead.NoHeader ≡ numbersRead s → h ≡ no_header 5 → h ≡ flatHeaderRead (headerOf s)
-  unfolding flatHeaderRead
-  flat-too-short h short e = rw (sym (header-missing s short)) e
+  pub flat_too_short : (h : FlatHeader) → NumbersRead.NoHeader ≡ numbers_read s → h ≡ no_header 5 → h ≡ flat_header_read (header_of s)
+  unfolding flat_header_read
+  flat_too_short h short e = rw (sym (header_missing s short)) e
 
-  pub flat-numbers : (n : HeaderNumbers) (encrypted : ℕ) → NumbersRead.Numbers n ≡ numbersRead s → encrypted ≡ flagNumber n.encrypted_packet
+  pub flat_numbers : (n : HeaderNumbers) (encrypted : ℕ) → NumbersRead.Numbers n ≡ numbers_read s → encrypted ≡ flag_number n.encrypted_packet
       → record {
         refusal = 0;
         protocol_version = n.protocol_version;
@@ -31,9 +31,9 @@ module _ (s : List ℕ) where
         tier = n.tier;
         splice_command_length = n.splice_command_length;
         splice_command_type = n.splice_command_type;
-      } ≡ flatHeaderRead (headerOf s)
-  unfolding flatHeaderRead flatHeader
-  flat-numbers n encrypted e f =
-      let a : algorithmNumber (algorithmOf n.encryption_algorithm) ≡ n.encryption_algorithm = algorithm-laws.there n.encryption_algorithm in
-      let k : commandNumber (commandTypeOf n.splice_command_type) ≡ n.splice_command_type = command-laws.there n.splice_command_type in
-      rw (sym (header-named s n e), a, k, f)
+      } ≡ flat_header_read (header_of s)
+  unfolding flat_header_read flat_header
+  flat_numbers n encrypted e f =
+      let a : algorithm_number (algorithm_of n.encryption_algorithm) ≡ n.encryption_algorithm = algorithm_laws.there n.encryption_algorithm in
+      let k : command_number (command_type_of n.splice_command_type) ≡ n.splice_command_type = command_laws.there n.splice_command_type in
+      rw (sym (header_named s n e), a, k, f)

@@ -8,39 +8,39 @@ use Rattle.header.specs.declared.header.SpliceInfoHeader.{SpliceInfoHeader}
 use Rattle.splice_time.specs.declared.AdjustedTime.{AdjustedTime}
 use Rattle.splice_time.specs.declared.SpliceTime.{SpliceTime}
 use Rattle.splice_time.specs.declared.SpliceTime.TheVariants.{Immediate, Unspecified, At}
-use Rattle.names.specs.Algorithm.{algorithmNumber}
-use Rattle.names.specs.Command.{commandNumber}
-use Rattle.table.specs.Table.{flagNumber}
+use Rattle.names.specs.Algorithm.{algorithm_number}
+use Rattle.names.specs.Command.{command_number}
+use Rattle.table.specs.Table.{flag_number}
 use Rattle.c_section.specs.declared.FlatTime.{FlatTime}
 use Rattle.c_section.specs.declared.FlatView.{FlatView}
 use Rattle.c_section.specs.declared.headers.FlatAdjusted.{FlatAdjusted}
 use Rattle.c_section.specs.declared.headers.FlatHeader.{FlatHeader}
 
-abbrev pub flatView : View → FlatView
-flatView v = record { at = v.at; len = v.len }
+abbrev pub flat_view : View → FlatView
+flat_view v = record { at = v.at; len = v.len }
 
 -- a time: 0 none, 1 immediate, 2 unspecified, 3 at so many ticks
-abbrev pub flatTime : SpliceTime → FlatTime
-flatTime Immediate = record { kind = 1; ticks = 0 }
-flatTime Unspecified = record { kind = 2; ticks = 0 }
-flatTime (At t) = record { kind = 3; ticks = t }
+abbrev pub flat_time : SpliceTime → FlatTime
+flat_time Immediate = record { kind = 1; ticks = 0 }
+flat_time Unspecified = record { kind = 2; ticks = 0 }
+flat_time (At t) = record { kind = 3; ticks = t }
 
-abbrev pub noTime : FlatTime
-noTime = record { kind = 0; ticks = 0 }
+abbrev pub no_time : FlatTime
+no_time = record { kind = 0; ticks = 0 }
 
 -- ---- the splice header
-unfoldable pub flatHeader : SpliceInfoHeader → FlatHeader
-flatHeader h =
+unfoldable pub flat_header : SpliceInfoHeader → FlatHeader
+flat_header h =
     record {
       refusal = 0;
       protocol_version = h.protocol_version;
-      encrypted_packet = flagNumber h.encrypted_packet;
-      encryption_algorithm = algorithmNumber h.encryption_algorithm;
+      encrypted_packet = flag_number h.encrypted_packet;
+      encryption_algorithm = algorithm_number h.encryption_algorithm;
       pts_adjustment = h.pts_adjustment;
       cw_index = h.cw_index;
       tier = h.tier;
       splice_command_length = h.splice_command_length;
-      splice_command_type = commandNumber h.splice_command_type;
+      splice_command_type = command_number h.splice_command_type;
     }
 
 unfoldable pub no_header : ℕ → FlatHeader
@@ -57,12 +57,12 @@ no_header refusal =
       splice_command_type = 0;
     }
 
-unfoldable pub flatHeaderRead : HeaderRead → FlatHeader
-flatHeaderRead (Header h) = flatHeader h
-flatHeaderRead NoHeader = no_header (number_of NoHeader)
+unfoldable pub flat_header_read : HeaderRead → FlatHeader
+flat_header_read (Header h) = flat_header h
+flat_header_read NoHeader = no_header (number_of NoHeader)
 
 -- ---- an adjusted time, "otherwise none", or refusal 32
-unfoldable pub flatAdjusted : AdjustedTime → FlatAdjusted
-flatAdjusted (AdjustedTime.At t) = record { refusal = 0; kind = 3; ticks = t }
-flatAdjusted AdjustedTime.Nothing = record { refusal = 0; kind = 0; ticks = 0 }
-flatAdjusted AdjustedTime.TooLarge = record { refusal = 32; kind = 0; ticks = 0 }
+unfoldable pub flat_adjusted : AdjustedTime → FlatAdjusted
+flat_adjusted (AdjustedTime.At t) = record { refusal = 0; kind = 3; ticks = t }
+flat_adjusted AdjustedTime.Nothing = record { refusal = 0; kind = 0; ticks = 0 }
+flat_adjusted AdjustedTime.TooLarge = record { refusal = 32; kind = 0; ticks = 0 }

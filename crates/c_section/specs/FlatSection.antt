@@ -5,15 +5,15 @@ use Rattle.section.specs.Section.{number_of}
 use Rattle.section.specs.declared.Frame.{Frame}
 use Rattle.section.specs.declared.SectionRead.{SectionRead}
 use Rattle.section.specs.declared.SectionRead.TheVariants.{Is, Refused}
-use Rattle.c_section.specs.Flat.{flatHeader, no_header, flatView}
-use Rattle.c_section.specs.FlatCommand.{flatCommand, noCommand}
+use Rattle.c_section.specs.Flat.{flat_header, no_header, flat_view}
+use Rattle.c_section.specs.FlatCommand.{flat_command, no_command}
 use Rattle.c_section.specs.declared.headers.FlatHeader.{FlatHeader}
 use Rattle.c_section.specs.declared.sections.FlatSection.{FlatSection}
 
 -- of a section's parts, whose header is flat already
-abbrev pub flatParts : FlatHeader → SpliceCommand → Frame → FlatSection
-flatParts h c f = record { refusal = 0; header = h; command = flatCommand c; descriptors = flatView f.descriptors; payload = flatView f.command }
+abbrev pub flat_parts : FlatHeader → SpliceCommand → Frame → FlatSection
+flat_parts h c f = record { refusal = 0; header = h; command = flat_command c; descriptors = flat_view f.descriptors; payload = flat_view f.command }
 
-unfoldable pub flatSectionRead : SectionRead → FlatSection
-flatSectionRead (Is x) = flatParts (flatHeader x.header) x.command (record { command = x.payload; descriptors = x.descriptors })
-flatSectionRead (Refused r) = record { refusal = number_of (Refused r); header = no_header 0; command = noCommand 0 0; descriptors = flatView no_view; payload = flatView no_view }
+unfoldable pub flat_section_read : SectionRead → FlatSection
+flat_section_read (Is x) = flat_parts (flat_header x.header) x.command (record { command = x.payload; descriptors = x.descriptors })
+flat_section_read (Refused r) = record { refusal = number_of (Refused r); header = no_header 0; command = no_command 0 0; descriptors = flat_view no_view; payload = flat_view no_view }

@@ -1,6 +1,6 @@
 // A splice command.
 ghost use Rattle.std.specs.Prelude.{◌≡◌};
-ghost use Rattle.c_section.specs.FlatCommand.{flatMode, flatBreak, insertHead, activeInsert, flatInsertion, noCommand, flatCommand, flatCommandRead};
+ghost use Rattle.c_section.specs.FlatCommand.{flat_mode, flat_break, insert_head, active_insert, flat_insertion, no_command, flat_command, flat_command_read};
 
 use crate::{FlatTime, FlatView, flat_time, flat_view};
 use command::insert::{InsertDetail, SpliceDetail, SpliceInsert, SpliceMode};
@@ -52,7 +52,7 @@ pub struct FlatCommand {
 }
 
 fn flat_mode(m: SpliceMode) -> FlatMode
-    ensures { result ≡ flatMode m }
+    ensures { result ≡ flat_mode m }
 {
     match m {
         SpliceMode::Program(t) => FlatMode {
@@ -69,7 +69,7 @@ fn flat_mode(m: SpliceMode) -> FlatMode
 }
 
 fn flat_break(b: Break) -> FlatBreak
-    ensures { result ≡ flatBreak b }
+    ensures { result ≡ flat_break b }
 {
     match b {
         Break::Absent => FlatBreak {
@@ -90,7 +90,7 @@ fn flat_break(b: Break) -> FlatBreak
 
 // An insert without its detail.
 fn insert_head(event: u64, cancel: u64, reserved: u64) -> FlatInsert
-    ensures { result ≡ insertHead event cancel reserved }
+    ensures { result ≡ insert_head event cancel reserved }
 {
     FlatInsert {
         splice_event_id: event,
@@ -110,7 +110,7 @@ fn insert_head(event: u64, cancel: u64, reserved: u64) -> FlatInsert
 }
 
 fn active_insert(event: u64, reserved: u64, i: InsertDetail) -> FlatInsert
-    ensures { result ≡ activeInsert event 0 reserved i }
+    ensures { result ≡ active_insert event 0 reserved i }
 {
     let network = i.network_indicator;
     let mode = i.splice_mode;
@@ -129,7 +129,7 @@ fn active_insert(event: u64, reserved: u64, i: InsertDetail) -> FlatInsert
 }
 
 fn flat_insert(x: SpliceInsert) -> FlatInsert
-    ensures { result ≡ flatInsertion x }
+    ensures { result ≡ flat_insertion x }
 {
     let detail = x.splice_detail;
     match detail {
@@ -139,7 +139,7 @@ fn flat_insert(x: SpliceInsert) -> FlatInsert
 }
 
 pub(crate) fn no_command(refusal: u64, command_type: u64) -> FlatCommand
-    ensures { result ≡ noCommand refusal command_type }
+    ensures { result ≡ no_command refusal command_type }
 {
     FlatCommand {
         refusal,
@@ -152,7 +152,7 @@ pub(crate) fn no_command(refusal: u64, command_type: u64) -> FlatCommand
 }
 
 pub(crate) fn flat_command(c: SpliceCommand) -> FlatCommand
-    ensures { result ≡ flatCommand c }
+    ensures { result ≡ flat_command c }
 {
     match c {
         SpliceCommand::SpliceNull => no_command(0, 0),
@@ -188,7 +188,7 @@ pub(crate) fn flat_command(c: SpliceCommand) -> FlatCommand
 }
 
 pub fn flat_command_read(read: CommandRead) -> FlatCommand
-    ensures { result ≡ flatCommandRead read }
+    ensures { result ≡ flat_command_read read }
 {
     match read {
         CommandRead::Is(c) => flat_command(c),

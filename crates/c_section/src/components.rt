@@ -1,6 +1,6 @@
 // The components of an insert.
 ghost use Rattle.std.specs.Prelude.{◌≡◌, map};
-ghost use Rattle.c_section.specs.FlatCommand.{flatComponent, noComponents, flatInsertComponents};
+ghost use Rattle.c_section.specs.FlatCommand.{flat_component, no_components, flat_insert_components};
 
 use crate::commands::flat_command;
 use crate::{FlatTime, flat_time};
@@ -24,7 +24,7 @@ pub struct FlatInsertComponents {
 }
 
 fn flat_component(c: InsertComponent) -> FlatInsertComponent
-    ensures { result ≡ flatComponent c }
+    ensures { result ≡ flat_component c }
 {
     let time = c.splice_time;
     FlatInsertComponent {
@@ -34,7 +34,7 @@ fn flat_component(c: InsertComponent) -> FlatInsertComponent
 }
 
 fn no_components() -> [FlatInsertComponent; MAX_COMPONENTS]
-    ensures { result ≡ noComponents }
+    ensures { result ≡ no_components }
 {
     [FlatInsertComponent {
         component_tag: 0,
@@ -43,7 +43,7 @@ fn no_components() -> [FlatInsertComponent; MAX_COMPONENTS]
 }
 
 fn flat_components(cs: [InsertComponent; MAX_COMPONENTS]) -> [FlatInsertComponent; MAX_COMPONENTS]
-    ensures { result ≡ map flatComponent cs }
+    ensures { result ≡ map flat_component cs }
 {
     let mut out = no_components();
     let mut i: usize = 0;
@@ -60,7 +60,7 @@ pub fn flat_insert_components(
     read: CommandRead,
     cs: [InsertComponent; MAX_COMPONENTS],
 ) -> FlatInsertComponents
-    ensures { result ≡ flatInsertComponents read cs }
+    ensures { result ≡ flat_insert_components read cs }
 {
     match read {
         CommandRead::Is(c) => {

@@ -1,7 +1,7 @@
 // A splice header, and an adjusted time.
 ghost use Rattle.std.specs.Prelude.{◌≡◌};
-ghost use Rattle.c_section.specs.Flat.{no_header, flatHeader, flatHeaderRead, flatAdjusted};
-ghost use Rattle.header.specs.Header.{headerOf};
+ghost use Rattle.c_section.specs.Flat.{no_header, flat_header, flat_header_read, flat_adjusted};
+ghost use Rattle.header.specs.Header.{header_of};
 
 use crate::flat_flag;
 use header::header::{HeaderRead, SpliceInfoHeader};
@@ -45,7 +45,7 @@ pub(crate) fn no_header(refusal: u64) -> FlatHeader
 
 // The flat form of the header in the first eleven bytes: numbers cross as they stand, and none is named on the way.
 pub fn read_flat_header(s: &[u8]) -> FlatHeader
-    ensures { result ≡ flatHeaderRead (headerOf s.now) }
+    ensures { result ≡ flat_header_read (header_of s.now) }
 {
     match read_header_numbers(s) {
         NumbersRead::Numbers(n) => FlatHeader {
@@ -64,7 +64,7 @@ pub fn read_flat_header(s: &[u8]) -> FlatHeader
 }
 
 fn flat_header(h: SpliceInfoHeader) -> FlatHeader
-    ensures { result ≡ flatHeader h }
+    ensures { result ≡ flat_header h }
 {
     let algorithm = h.encryption_algorithm;
     let command_type = h.splice_command_type;
@@ -82,7 +82,7 @@ fn flat_header(h: SpliceInfoHeader) -> FlatHeader
 }
 
 pub fn flat_header_read(read: HeaderRead) -> FlatHeader
-    ensures { result ≡ flatHeaderRead read }
+    ensures { result ≡ flat_header_read read }
 {
     match read {
         HeaderRead::Header(h) => flat_header(h),
@@ -100,7 +100,7 @@ pub struct FlatAdjusted {
 }
 
 pub fn flat_adjusted(t: AdjustedTime) -> FlatAdjusted
-    ensures { result ≡ flatAdjusted t }
+    ensures { result ≡ flat_adjusted t }
 {
     match t {
         AdjustedTime::At(ticks) => FlatAdjusted {

@@ -1,7 +1,7 @@
 // The flat forms of readings: structs of 64-bit words alone, which is what crosses to C. A named number crosses as its number, a flag as 0 or 1.
 ghost use Rattle.std.specs.Prelude.{◌≡◌};
-ghost use Rattle.table.specs.Table.{flagNumber};
-ghost use Rattle.c_section.specs.Flat.{flatView, flatTime};
+ghost use Rattle.table.specs.Table.{flag_number};
+ghost use Rattle.c_section.specs.Flat.{flat_view, flat_time};
 
 use splice_time::SpliceTime;
 use table::View;
@@ -28,13 +28,13 @@ pub struct FlatTime {
 }
 
 pub fn flat_flag(set: bool) -> u64
-    ensures { result ≡ flagNumber set }
+    ensures { result ≡ flag_number set }
 {
     if set { 1 } else { 0 }
 }
 
 pub fn flat_view(v: View) -> FlatView
-    ensures { result ≡ flatView v }
+    ensures { result ≡ flat_view v }
 {
     FlatView {
         at: v.at as u64,
@@ -43,7 +43,7 @@ pub fn flat_view(v: View) -> FlatView
 }
 
 pub(crate) fn flat_time(t: SpliceTime) -> FlatTime
-    ensures { result ≡ flatTime t }
+    ensures { result ≡ flat_time t }
 {
     match t {
         SpliceTime::Immediate => FlatTime { kind: 1, ticks: 0 },

@@ -1,7 +1,7 @@
 // A section: header, command, and where its descriptor loop and its command's payload lie.
 ghost use Rattle.std.specs.Prelude.{◌≡◌};
 ghost use Rattle.section.specs.declared.SectionRead.{SectionRead};
-ghost use Rattle.c_section.specs.FlatSection.{flatSectionRead, flatParts};
+ghost use Rattle.c_section.specs.FlatSection.{flat_section_read, flat_parts};
 
 use crate::commands::{FlatCommand, flat_command, no_command};
 use crate::headers::{FlatHeader, no_header};
@@ -21,7 +21,7 @@ pub struct FlatSection {
 
 // A refused section: its number alone.
 pub fn no_section(r: Refusal) -> FlatSection
-    ensures { result ≡ flatSectionRead (SectionRead.Refused r) }
+    ensures { result ≡ flat_section_read (SectionRead.Refused r) }
 {
     FlatSection {
         refusal: r.number() as u64,
@@ -34,7 +34,7 @@ pub fn no_section(r: Refusal) -> FlatSection
 
 // One that is read: its header, its command, and where its parts lie.
 pub fn flat_parts(header: FlatHeader, command: SpliceCommand, frame: Frame) -> FlatSection
-    ensures { result ≡ flatParts header command frame }
+    ensures { result ≡ flat_parts header command frame }
 {
     let descriptors = frame.descriptors;
     let payload = frame.command;

@@ -1,13 +1,13 @@
 // The section writer over the C boundary: a section from the words of a header, of a command and of its components.
 ghost use Rattle.std.specs.Prelude.{[], ◌≡◌, ◌≤◌};
-ghost use Rattle.command.specs.Command.{array, countIn};
-ghost use Rattle.command_measure.specs.Made.{commandMade};
-ghost use Rattle.c_section_writer.specs.SectionGiven.{headerFrom, headerRefusal, either, sectionWordsMade};
-ghost use Rattle.c_section_writer.specs.SectionWords.{headerWords};
-ghost use Rattle.c_command_writer.specs.CommandGiven.{componentsFrom};
-ghost use Rattle.c_command_writer.specs.Words.{flatWritten, noLess};
-ghost use Rattle.bit_stores.specs.Written.{answer_of, laterOf};
-ghost use Rattle.section_writer.specs.Writing.{sectionMade, type_of};
+ghost use Rattle.command.specs.Command.{array, count_in};
+ghost use Rattle.command_measure.specs.Made.{command_made};
+ghost use Rattle.c_section_writer.specs.SectionGiven.{header_from, header_refusal, either, section_words_made};
+ghost use Rattle.c_section_writer.specs.SectionWords.{header_words};
+ghost use Rattle.c_command_writer.specs.CommandGiven.{components_from};
+ghost use Rattle.c_command_writer.specs.Words.{flat_written, no_less};
+ghost use Rattle.bit_stores.specs.Written.{answer_of, later_of};
+ghost use Rattle.section_writer.specs.Writing.{section_made, type_of};
 
 use c_command_writer::commands::{
     command_given, command_refusal, components_given, count_in_command,
@@ -22,7 +22,7 @@ use section_writer::{write_section, write_section_without_components};
 
 // The header that words make. Its command length and type are the writer's to work out.
 fn header_from(words: &[u64]) -> SpliceInfoHeader
-    ensures { result ≡ headerFrom words.now }
+    ensures { result ≡ header_from words.now }
 {
     SpliceInfoHeader {
         protocol_version: (word_at(words, 1) % 256) as u8,
@@ -37,7 +37,7 @@ fn header_from(words: &[u64]) -> SpliceInfoHeader
 }
 
 fn header_words(h: FlatHeader) -> [u64; 7]
-    ensures { result ≡ headerWords h }
+    ensures { result ≡ header_words h }
 {
     [
         h.refusal,
@@ -52,7 +52,7 @@ fn header_words(h: FlatHeader) -> [u64; 7]
 
 // Refusals 32 and 33 of the words of a header; 0 for none.
 fn header_refusal(words: &[u64]) -> u64
-    ensures { result ≡ headerRefusal words.now }
+    ensures { result ≡ header_refusal words.now }
 {
     let widths: [u64; 7] = [64, 8, 1, 6, 33, 8, 12];
     if !are_within(&widths, words) {
@@ -87,8 +87,8 @@ fn write_words_without_components(
     target: &mut [u8],
 ) -> FlatWritten
     requires { refusal ≤ 36 }
-    ensures answer { result ≡ flatWritten (answer_of (noLess refusal (sectionMade header (commandMade command (array []) lent.now) (type_of command) descriptors.now)) target.old) }
-    ensures bytes { target.new ≡ laterOf (noLess refusal (sectionMade header (commandMade command (array []) lent.now) (type_of command) descriptors.now)) target.old }
+    ensures answer { result ≡ flat_written (answer_of (no_less refusal (section_made header (command_made command (array []) lent.now) (type_of command) descriptors.now)) target.old) }
+    ensures bytes { target.new ≡ later_of (no_less refusal (section_made header (command_made command (array []) lent.now) (type_of command) descriptors.now)) target.old }
 {
     if refusal == 0 {
         return flat_written(write_section_without_components(
@@ -116,8 +116,8 @@ fn write_listed_words(
     target: &mut [u8],
 ) -> FlatWritten
     requires { refusal ≤ 36 }
-    ensures answer { result ≡ flatWritten (answer_of (noLess refusal (sectionMade header (commandMade command (componentsFrom (countIn command) components.now) lent.now) (type_of command) descriptors.now)) target.old) }
-    ensures bytes { target.new ≡ laterOf (noLess refusal (sectionMade header (commandMade command (componentsFrom (countIn command) components.now) lent.now) (type_of command) descriptors.now)) target.old }
+    ensures answer { result ≡ flat_written (answer_of (no_less refusal (section_made header (command_made command (components_from (count_in command) components.now) lent.now) (type_of command) descriptors.now)) target.old) }
+    ensures bytes { target.new ≡ later_of (no_less refusal (section_made header (command_made command (components_from (count_in command) components.now) lent.now) (type_of command) descriptors.now)) target.old }
 {
     let places = components_given(command, components);
     if 0 < refusal {
@@ -145,8 +145,8 @@ pub fn write_section_words(
     descriptors: &[u8],
     target: &mut [u8],
 ) -> FlatWritten
-    ensures answer { result ≡ flatWritten (answer_of (sectionWordsMade header.now command.now components.now lent.now descriptors.now) target.old) }
-    ensures bytes { target.new ≡ laterOf (sectionWordsMade header.now command.now components.now lent.now descriptors.now) target.old }
+    ensures answer { result ≡ flat_written (answer_of (section_words_made header.now command.now components.now lent.now descriptors.now) target.old) }
+    ensures bytes { target.new ≡ later_of (section_words_made header.now command.now components.now lent.now descriptors.now) target.old }
 {
     let h = header_from(header);
     let c = command_given(command);

@@ -3,38 +3,38 @@
 use Rattle.std.specs.Prelude.{ℕ, List, map, [], ◌∷◌, ◌≡◌, take}
 use Rattle.table.specs.Lent.{placeless, viewed}
 use Rattle.table.specs.declared.View.{View}
-use Rattle.descriptor.specs.Views.{descriptorViews, withViews}
+use Rattle.descriptor.specs.Views.{descriptor_views, with_views}
 use Rattle.descriptor.specs.declared.Descriptor.{Descriptor}
 use Rattle.descriptor.specs.declared.segmentation.SegmentationUpid.{SegmentationUpid}
 use Rattle.descriptor.specs.declared.full.Beside.{Beside}
 use Rattle.descriptor_loop.specs.Items.{reading_of, Listed, items_of}
 use Rattle.descriptor_loop.specs.declared.Item.TheVariants.{Is}
-use Rattle.command.specs.Command.{withView, countIn, componentsOf}
+use Rattle.command.specs.Command.{with_view, count_in, components_of}
 use Rattle.command.specs.declared.SpliceCommand.{SpliceCommand}
-use Rattle.section.specs.Section.{commandBytes, privateView, loopIn}
+use Rattle.section.specs.Section.{command_bytes, private_view, loop_in}
 use Rattle.section.specs.declared.Section.{Section}
 use Rattle.header.specs.declared.header.SpliceInfoHeader.{SpliceInfoHeader}
-use Rattle.descriptor_measure.specs.Writing.{countBeside}
+use Rattle.descriptor_measure.specs.Writing.{count_beside}
 
 -- ---- descriptors
 
 -- a UPID without its view's place, and a descriptor without its views' places: how many bytes a view has is a value, of a UPID that is held by value too
-abbrev pub placelessUpid : SegmentationUpid → SegmentationUpid
-placelessUpid u = record { upid_type = u.upid_type; bytes = placeless u.bytes }
+abbrev pub placeless_upid : SegmentationUpid → SegmentationUpid
+placeless_upid u = record { upid_type = u.upid_type; bytes = placeless u.bytes }
 
-abbrev pub withoutPlaces : Descriptor → Descriptor
-withoutPlaces d = withViews placelessUpid placeless d
+abbrev pub without_places : Descriptor → Descriptor
+without_places d = with_views placeless_upid placeless d
 
 -- the bytes of each view
-abbrev pub bytesOfViews : List ℕ → List View → List (List ℕ)
-bytesOfViews s vs = map (viewed s) vs
+abbrev pub bytes_of_views : List ℕ → List View → List (List ℕ)
+bytes_of_views s vs = map (viewed s) vs
 
 -- d with its identifier and what stands beside it, whose views are of the bytes s, and e likewise of the bytes r
 pub record SameReading (s : List ℕ) (d : Descriptor) (identifier : List ℕ) (beside : Beside) (r : List ℕ) (e : Descriptor) (other : List ℕ) (besides : Beside) : Type 0 where
-  pub values : withoutPlaces d ≡ withoutPlaces e
-  pub bytes : bytesOfViews s (descriptorViews d) ≡ bytesOfViews r (descriptorViews e)
+  pub values : without_places d ≡ without_places e
+  pub bytes : bytes_of_views s (descriptor_views d) ≡ bytes_of_views r (descriptor_views e)
   pub identifiers : identifier ≡ other
-  pub components : take (countBeside d) beside.components ≡ take (countBeside e) besides.components
+  pub components : take (count_beside d) beside.components ≡ take (count_beside e) besides.components
   pub eidrs : beside.eidr ≡ besides.eidr
 
 -- ---- items of a loop
@@ -66,8 +66,8 @@ pub data Pairs {A B : Type 0} (R : A → B → Type 0) : List A → List B → T
 -- ---- sections
 
 -- a command without its view's place
-abbrev pub withoutPlace : SpliceCommand → SpliceCommand
-withoutPlace c = withView placeless c
+abbrev pub without_place : SpliceCommand → SpliceCommand
+without_place c = with_view placeless c
 
 -- headers: "the header's command length and type .. are left out"
 pub record SameHeader (g h : SpliceInfoHeader) : Type 0 where
@@ -81,9 +81,9 @@ pub record SameHeader (g h : SpliceInfoHeader) : Type 0 where
 -- x that is read of the bytes s, and y that is read of the bytes r
 pub record SameSections (s : List ℕ) (x : Section) (r : List ℕ) (y : Section) : Type 0 where
   pub headers : SameHeader x.header y.header
-  pub commands : withoutPlace x.command ≡ withoutPlace y.command
+  pub commands : without_place x.command ≡ without_place y.command
   -- as many as the command counts
-  pub components : take (countIn x.command) (componentsOf (commandBytes s)) ≡ take (countIn y.command) (componentsOf (commandBytes r))
-  pub bytes : viewed s (privateView x.command) ≡ viewed r (privateView y.command)
+  pub components : take (count_in x.command) (components_of (command_bytes s)) ≡ take (count_in y.command) (components_of (command_bytes r))
+  pub bytes : viewed s (private_view x.command) ≡ viewed r (private_view y.command)
   -- of the loop: its items, in order
-  pub items : Pairs (SameItem (loopIn s x) (loopIn r y)) (items_of (loopIn s x)) (items_of (loopIn r y))
+  pub items : Pairs (SameItem (loop_in s x) (loop_in r y)) (items_of (loop_in s x)) (items_of (loop_in r y))

@@ -1,9 +1,9 @@
 -- Calls on any channel one after the other, as the contracts of the functions allow them, and on a list for each channel.
 use Rattle.std.specs.Prelude.{ℕ, cond as pick, List, [], ◌∷◌, map, ◌==◌}
-use Rattle.board.specs.Breaks.{Breaks, Told, noBreaks}
-use Rattle.board.specs.Runs.{Call, toldOf, listAnswers}
+use Rattle.board.specs.Breaks.{Breaks, Told, no_breaks}
+use Rattle.board.specs.Runs.{Call, told_of, list_answers}
 use Rattle.board.specs.Runs.Call.{opening, closing}
-use Rattle.channels.specs.Channels.{noChannel, openOf, closeOf}
+use Rattle.channels.specs.Channels.{no_channel, open_of, close_of}
 use Rattle.channels.specs.declared.Reply.{Reply}
 use Rattle.channels.specs.declared.Reply.TheVariants.{NoSuchChannel, Is}
 use Rattle.channels.specs.declared.SharedBoard.{SharedBoard}
@@ -14,13 +14,13 @@ pub record On : Type 0 where
   pub channel : ℕ
   pub call : Call
 
-abbrev pub turnBy : ℕ → Call → SharedBoard → Turn
-turnBy channel (opening provider) b = openOf b channel provider
-turnBy channel (closing id) b = closeOf b channel id
+abbrev pub turn_by : ℕ → Call → SharedBoard → Turn
+turn_by channel (opening provider) b = open_of b channel provider
+turn_by channel (closing id) b = close_of b channel id
 
 -- what the two functions ensure of a call
 abbrev pub turn_of : On → SharedBoard → Turn
-turn_of o b = turnBy o.channel o.call b
+turn_of o b = turn_by o.channel o.call b
 
 -- Calls one after the other from a board, what each is told, and the board after them, where `Does o b t` is what a call may do.
 pub data Run (Does : On → SharedBoard → Turn → Type 0) : SharedBoard → List On → List Reply → SharedBoard → Type 0 where
@@ -29,8 +29,8 @@ pub data Run (Does : On → SharedBoard → Turn → Type 0) : SharedBoard → L
 
 -- ---- two of Q-7's lists, each of at most 16
 
-abbrev pub noLists : ℕ → Breaks
-noLists c = noBreaks
+abbrev pub no_lists : ℕ → Breaks
+no_lists c = no_breaks
 
 -- the lists with another in a channel's place
 abbrev pub with_list : ℕ → Breaks → (ℕ → Breaks) → ℕ → Breaks
@@ -42,25 +42,25 @@ pub record Said : Type 0 where
 
 abbrev pub said_of : On → (ℕ → Breaks) → Said
 said_of o ls =
-    let t : Told = toldOf 16 o.call (ls o.channel) in
-    pick (noChannel o.channel) (record { reply = NoSuchChannel; lists = ls }) (record { reply = Is t.answer; lists = with_list o.channel t.breaks ls })
+    let t : Told = told_of 16 o.call (ls o.channel) in
+    pick (no_channel o.channel) (record { reply = NoSuchChannel; lists = ls }) (record { reply = Is t.answer; lists = with_list o.channel t.breaks ls })
 
-unfoldable pub listReplies : List On → (ℕ → Breaks) → List Reply
-listReplies [] ls = []
-listReplies (o ∷ os) ls = (said_of o ls).reply ∷ listReplies os (said_of o ls).lists
+unfoldable pub list_replies : List On → (ℕ → Breaks) → List Reply
+list_replies [] ls = []
+list_replies (o ∷ os) ls = (said_of o ls).reply ∷ list_replies os (said_of o ls).lists
 
 -- ---- what one channel asks and hears
 
-unfoldable pub askedBy : ℕ → List On → List Call
-askedBy c [] = []
-askedBy c (o ∷ os) = pick (o.channel == c) (o.call ∷ askedBy c os) (askedBy c os)
+unfoldable pub asked_by : ℕ → List On → List Call
+asked_by c [] = []
+asked_by c (o ∷ os) = pick (o.channel == c) (o.call ∷ asked_by c os) (asked_by c os)
 
 -- of what all calls are told, what a channel's are
-unfoldable pub heardBy : ℕ → List On → List Reply → List Reply
-heardBy c [] told = []
-heardBy c (o ∷ os) [] = []
-heardBy c (o ∷ os) (r ∷ told) = pick (o.channel == c) (r ∷ heardBy c os told) (heardBy c os told)
+unfoldable pub heard_by : ℕ → List On → List Reply → List Reply
+heard_by c [] told = []
+heard_by c (o ∷ os) [] = []
+heard_by c (o ∷ os) (r ∷ told) = pick (o.channel == c) (r ∷ heard_by c os told) (heard_by c os told)
 
 -- What Q-7's list with room for 16 says to a channel's own calls; to one of another number, 63 each time. No other channel is named, no place, and no total.
 abbrev pub alone : ℕ → List Call → Breaks → List Reply
-alone c calls l = pick (noChannel c) (map (λ (q : Call). NoSuchChannel) calls) (map Is (listAnswers 16 calls l))
+alone c calls l = pick (no_channel c) (map (λ (q : Call). NoSuchChannel) calls) (map Is (list_answers 16 calls l))

@@ -1,7 +1,7 @@
 // Two channels on one board (Q-8). The 32 places are shared: none belongs to a channel, and each says whose break stands in it.
 ghost use Rattle.std.specs.Prelude.{◌≡◌, length};
-ghost use Rattle.board.specs.Board.{breaksOf};
-ghost use Rattle.channels.specs.Channels.{emptyShared, seenAs, seenBy, asFound, openOf, closeOf};
+ghost use Rattle.board.specs.Board.{breaks_of};
+ghost use Rattle.channels.specs.Channels.{empty_shared, seen_as, seen_by, as_found, open_of, close_of};
 
 use board::{Answer, Place, Refusal, blank_place, free_id, free_place, place_of};
 
@@ -27,7 +27,7 @@ pub struct Turn {
 }
 
 pub fn empty() -> SharedBoard
-    ensures { result ≡ emptyShared }
+    ensures { result ≡ empty_shared }
 {
     let none = blank_place();
     SharedBoard {
@@ -38,14 +38,14 @@ pub fn empty() -> SharedBoard
 }
 
 fn seen_as(p: Place, whose: u8, channel: u8) -> Place
-    ensures { result ≡ seenAs channel p whose }
+    ensures { result ≡ seen_as channel p whose }
 {
     if whose == channel { p } else { blank_place() }
 }
 
 // The places as a channel sees them: another's breaks are blank.
 fn seen(places: [Place; 32], whose: [u8; 32], channel: u8) -> [Place; 32]
-    ensures { (result ≡ seenBy channel places whose) × (length places ≡ 32) × (length whose ≡ 32) }
+    ensures { (result ≡ seen_by channel places whose) × (length places ≡ 32) × (length whose ≡ 32) }
 {
     let none = blank_place();
     let mut out = [none; 32];
@@ -59,7 +59,7 @@ fn seen(places: [Place; 32], whose: [u8; 32], channel: u8) -> [Place; 32]
 
 // How many breaks stand in these places.
 fn count(places: [Place; 32]) -> usize
-    ensures { result ≡ length (breaksOf places) }
+    ensures { result ≡ length (breaks_of places) }
 {
     let mut n: usize = 0;
     let mut i: usize = 0;
@@ -74,7 +74,7 @@ fn count(places: [Place; 32]) -> usize
 }
 
 fn refused(b: SharedBoard, reply: Reply) -> Turn
-    ensures { result ≡ asFound reply b }
+    ensures { result ≡ as_found reply b }
 {
     Turn { reply, board: b }
 }
@@ -82,7 +82,7 @@ fn refused(b: SharedBoard, reply: Reply) -> Turn
 // Opens a break on a channel: 63 for no channel, 61 where the channel holds 16. On a board that no calls make all places may be taken before
 // that: 61 too.
 pub fn open_break(b: SharedBoard, channel: u8, provider: u32) -> Turn
-    ensures { result ≡ openOf b channel provider }
+    ensures { result ≡ open_of b channel provider }
 {
     if 1 < channel {
         return refused(b, Reply::NoSuchChannel);
@@ -122,7 +122,7 @@ pub fn open_break(b: SharedBoard, channel: u8, provider: u32) -> Turn
 
 // Closes a break of a channel: 63 for no channel, 62 where none of the channel's breaks has this event id.
 pub fn close_break(b: SharedBoard, channel: u8, event: u32) -> Turn
-    ensures { result ≡ closeOf b channel event }
+    ensures { result ≡ close_of b channel event }
 {
     if 1 < channel {
         return refused(b, Reply::NoSuchChannel);

@@ -9,10 +9,10 @@ use Rattle.command.specs.Command.{array}
 use Rattle.command.specs.Insert.{blank}
 use Rattle.command.specs.declared.components.InsertComponent.{InsertComponent}
 
-pub array-take : (cs : List InsertComponent) (n : ℕ) → length cs ≡ n → take n (array cs) ≡ cs
+pub array_take : (cs : List InsertComponent) (n : ℕ) → length cs ≡ n → take n (array cs) ≡ cs
 unfolding array
-array-take cs n e = take_at cs (replicate (255 - length cs) blank) n e
+array_take cs n e = take_at cs (replicate (255 - length cs) blank) n e
 
-pub array-there : (cs : List InsertComponent) (n : ℕ) → length cs ≡ n → n ≤ length (array cs)
+pub array_there : (cs : List InsertComponent) (n : ℕ) → length cs ≡ n → n ≤ length (array cs)
 unfolding array
-array-there cs n e = omega (arith, length-append cs (replicate (255 - length cs) blank))
+array_there cs n e = omega (arith, length-append cs (replicate (255 - length cs) blank))

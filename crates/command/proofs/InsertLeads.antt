@@ -9,23 +9,23 @@ use lib.ListN.{length}
 use Rattle.names.specs.declared.flags.NetworkIndicator.{NetworkIndicator}
 use Rattle.table.specs.Bits.{pick}
 use Rattle.table.specs.Table.{Table, done, inside}
-use Rattle.table.proofs.Leading.{Leads, leads-in, leads-done, leads-number, leads-flag, leads-ones}
-use Rattle.table.proofs.Lists.{and-true}
-use Rattle.splice_time.specs.Break.{lasting, breakDuration}
-use Rattle.splice_time.proofs.Breaks.{breakBytes, break-leads}
-use Rattle.command.specs.Writable.{unmixed, writableInsert}
+use Rattle.table.proofs.Leading.{Leads, leads_in, leads_done, leads_number, leads_flag, leads_ones}
+use Rattle.table.proofs.Lists.{and_true}
+use Rattle.splice_time.specs.Break.{lasting, break_duration}
+use Rattle.splice_time.proofs.Breaks.{break_bytes, break_leads}
+use Rattle.command.specs.Writable.{unmixed, writable_insert}
 use Rattle.command.specs.Insert.{
   WithComponents,
-  byProgram,
+  by_program,
   count,
-  allImmediate,
+  all_immediate,
   moded,
-  outOfNetwork,
+  out_of_network,
   mode_of,
   ending,
   active,
-  insertOf,
-  activeOf,
+  insert_of,
+  active_of,
   insert,
 }
 use Rattle.command.specs.declared.components.InsertComponent.{InsertComponent}
@@ -33,85 +33,85 @@ use Rattle.command.specs.declared.insert.InsertDetail.{InsertDetail}
 use Rattle.command.specs.declared.insert.SpliceInsert.{SpliceInsert}
 use Rattle.command.specs.declared.insert.SpliceDetail.{SpliceDetail}
 use Rattle.command.specs.declared.insert.SpliceMode.{SpliceMode}
-use Rattle.command.proofs.ModeLeads.{modeBytes, leads-must, moded-leads}
+use Rattle.command.proofs.ModeLeads.{mode_bytes, leads_must, moded_leads}
 
 -- ---- the bytes
-abbrev pub activeBytes : InsertDetail → List InsertComponent → ℕ
-activeBytes i cs = 1 + modeBytes i.splice_mode cs + breakBytes i.duration + 4
+abbrev pub active_bytes : InsertDetail → List InsertComponent → ℕ
+active_bytes i cs = 1 + mode_bytes i.splice_mode cs + break_bytes i.duration + 4
 
-abbrev pub detailBytes : SpliceDetail → List InsertComponent → ℕ
-detailBytes SpliceDetail.Cancel cs = 0
-detailBytes (SpliceDetail.Insert i) cs = activeBytes i cs
+abbrev pub detail_bytes : SpliceDetail → List InsertComponent → ℕ
+detail_bytes SpliceDetail.Cancel cs = 0
+detail_bytes (SpliceDetail.Insert i) cs = active_bytes i cs
 
-abbrev pub insertBytes : WithComponents SpliceInsert → ℕ
-insertBytes x = 5 + detailBytes x.value.splice_detail x.components
+abbrev pub insert_bytes : WithComponents SpliceInsert → ℕ
+insert_bytes x = 5 + detail_bytes x.value.splice_detail x.components
 
 -- ---- from the duration on
-network-again : (n : NetworkIndicator) → pick (outOfNetwork n) NetworkIndicator.Out NetworkIndicator.In ≡ n
-network-again NetworkIndicator.Out = refl
-network-again NetworkIndicator.In = refl
+network_again : (n : NetworkIndicator) → pick (out_of_network n) NetworkIndicator.Out NetworkIndicator.In ≡ n
+network_again NetworkIndicator.Out = refl
+network_again NetworkIndicator.In = refl
 
-ending-leads : (x : WithComponents InsertDetail) (at m : ℕ)
-    → Leads (ending (outOfNetwork x.value.network_indicator) (mode_of x) (lasting x.value.duration)) x x at (at + (breakBytes x.value.duration + 4) * 8) m
+ending_leads : (x : WithComponents InsertDetail) (at m : ℕ)
+    → Leads (ending (out_of_network x.value.network_indicator) (mode_of x) (lasting x.value.duration)) x x at (at + (break_bytes x.value.duration + 4) * 8) m
 unfolding ending
-ending-leads x at m =
-    let b = at + breakBytes x.value.duration * 8 in
-    leads-in (breakDuration (lasting x.value.duration)) _ _ _ _ x.value.duration at b _ m
-    (break-leads x.value.duration at _)
-    (leads-number 16 _ _ _ _ b _ m
-    (leads-number 8 _ _ _ _ (b + 16) _ m
-    (leads-number 8 _ _ _ _ (b + 16 + 8) _ m
-    (leads-done x _ _ _ _ m (rw (network-again x.value.network_indicator)) (omega arith)))))
+ending_leads x at m =
+    let b = at + break_bytes x.value.duration * 8 in
+    leads_in (break_duration (lasting x.value.duration)) _ _ _ _ x.value.duration at b _ m
+    (break_leads x.value.duration at _)
+    (leads_number 16 _ _ _ _ b _ m
+    (leads_number 8 _ _ _ _ (b + 16) _ m
+    (leads_number 8 _ _ _ _ (b + 16 + 8) _ m
+    (leads_done x _ _ _ _ m (rw (network_again x.value.network_indicator)) (omega arith)))))
 
 -- ---- an insert
-active-leads : (x : WithComponents InsertDetail) (at m : ℕ) → length x.components ≡ count x.value.splice_mode → unmixed x.components ≡ true
-    → Leads active x x at (at + activeBytes x.value x.components * 8) m
+active_leads : (x : WithComponents InsertDetail) (at m : ℕ) → length x.components ≡ count x.value.splice_mode → unmixed x.components ≡ true
+    → Leads active x x at (at + active_bytes x.value x.components * 8) m
 unfolding active
-active-leads x at m e f =
-    let k = modeBytes x.value.splice_mode x.components in
+active_leads x at m e f =
+    let k = mode_bytes x.value.splice_mode x.components in
     let b = at + 1 + 1 + 1 + 1 + 4 in
-    let z : b + k * 8 + (breakBytes x.value.duration + 4) * 8 ≡ at + activeBytes x.value x.components * 8 = omega arith in
+    let z : b + k * 8 + (break_bytes x.value.duration + 4) * 8 ≡ at + active_bytes x.value x.components * 8 = omega arith in
     rw (← z)
-    (leads-flag _ _ _ _ at _ m
-    (leads-flag _ _ _ _ (at + 1) _ m
-    (leads-flag _ _ _ _ (at + 1 + 1) _ m
-    (leads-flag _ _ _ _ (at + 1 + 1 + 1) _ m
-    (leads-ones 4 _ _ _ (at + 1 + 1 + 1 + 1) _ m
-    (leads-in (moded (byProgram x.value.splice_mode) (allImmediate (mode_of x))) mode_of _ _ _ (mode_of x) b (b + k * 8) _ m
-    (moded-leads x.value.splice_mode x.components b _ e f)
-    (ending-leads x (b + k * 8) m)))))))
+    (leads_flag _ _ _ _ at _ m
+    (leads_flag _ _ _ _ (at + 1) _ m
+    (leads_flag _ _ _ _ (at + 1 + 1) _ m
+    (leads_flag _ _ _ _ (at + 1 + 1 + 1) _ m
+    (leads_ones 4 _ _ _ (at + 1 + 1 + 1 + 1) _ m
+    (leads_in (moded (by_program x.value.splice_mode) (all_immediate (mode_of x))) mode_of _ _ _ (mode_of x) b (b + k * 8) _ m
+    (moded_leads x.value.splice_mode x.components b _ e f)
+    (ending_leads x (b + k * 8) m)))))))
 
-insert-leads : (event kept : ℕ) (d : SpliceDetail) (cs : List InsertComponent) (m : ℕ) → length cs ≡ count (insertOf d).splice_mode → eqb kept 127 ≡ true → unmixed cs ≡ true
+insert_leads : (event kept : ℕ) (d : SpliceDetail) (cs : List InsertComponent) (m : ℕ) → length cs ≡ count (insert_of d).splice_mode → eqb kept 127 ≡ true → unmixed cs ≡ true
     → (let x : WithComponents SpliceInsert = record { value = record { splice_event_id = event; reserved = kept; splice_detail = d }; components = cs } in
-    Leads insert x x 0 ((5 + detailBytes d cs) * 8) m)
+    Leads insert x x 0 ((5 + detail_bytes d cs) * 8) m)
 unfolding insert
-insert-leads event kept SpliceDetail.Cancel [] m e k f =
+insert_leads event kept SpliceDetail.Cancel [] m e k f =
     let x : WithComponents SpliceInsert = record { value = record { splice_event_id = event; reserved = kept; splice_detail = SpliceDetail.Cancel }; components = [] } in
-    leads-number 32 _ _ x x 0 40 m
-    (leads-flag _ _ x x 32 40 m
-    (leads-number 7 _ _ x x 33 40 m
-    (leads-must (eqb kept 127) (done x) x x 40 40 m k (leads-done x x x 40 40 m refl refl))))
-insert-leads event kept SpliceDetail.Cancel (c ∷ cs) m e k f = absurd (omega arith)
-insert-leads event kept (SpliceDetail.Insert i) cs m e k f =
+    leads_number 32 _ _ x x 0 40 m
+    (leads_flag _ _ x x 32 40 m
+    (leads_number 7 _ _ x x 33 40 m
+    (leads_must (eqb kept 127) (done x) x x 40 40 m k (leads_done x x x 40 40 m refl refl))))
+insert_leads event kept SpliceDetail.Cancel (c ∷ cs) m e k f = absurd (omega arith)
+insert_leads event kept (SpliceDetail.Insert i) cs m e k f =
     let x : WithComponents SpliceInsert = record { value = record { splice_event_id = event; reserved = kept; splice_detail = SpliceDetail.Insert i }; components = cs } in
     let y : WithComponents InsertDetail = record { value = i; components = cs } in
     let g : WithComponents InsertDetail → Table (WithComponents SpliceInsert) =
     λ u. done (record { value = record { splice_event_id = event; reserved = kept; splice_detail = SpliceDetail.Insert u.value }; components = u.components }) in
-    let a = (5 + activeBytes i cs) * 8 in
-    let z = 40 + activeBytes i cs * 8 in
+    let a = (5 + active_bytes i cs) * 8 in
+    let z = 40 + active_bytes i cs * 8 in
     let w : z ≡ a = omega arith in
-    leads-number 32 _ _ x x 0 a m
-    (leads-flag _ _ x x 32 a m
-    (leads-number 7 _ _ x x 33 a m
-    (leads-must (eqb kept 127) (inside active activeOf g) x x 40 a m k
-    (leads-in active activeOf g x x y 40 z a m (active-leads y 40 (a - z + m) e f) (leads-done x x x z a m refl w)))))
+    leads_number 32 _ _ x x 0 a m
+    (leads_flag _ _ x x 32 a m
+    (leads_number 7 _ _ x x 33 a m
+    (leads_must (eqb kept 127) (inside active active_of g) x x 40 a m k
+    (leads_in active active_of g x x y 40 z a m (active_leads y 40 (a - z + m) e f) (leads_done x x x z a m refl w)))))
 
 -- as many components as the mode says; none where the insert is cancelled
 abbrev pub Counted : WithComponents SpliceInsert → Type 0
-Counted x = length x.components ≡ count (activeOf x).value.splice_mode
+Counted x = length x.components ≡ count (active_of x).value.splice_mode
 
-pub insert-ends : (x : WithComponents SpliceInsert) (m : ℕ) → Counted x → writableInsert x ≡ true → Leads insert x x 0 (insertBytes x * 8) m
-unfolding writableInsert
-insert-ends x m h f =
-    let a = and-true (eqb x.value.reserved 127) _ f in
-    insert-leads x.value.splice_event_id x.value.reserved x.value.splice_detail x.components m h a.0 a.1
+pub insert_ends : (x : WithComponents SpliceInsert) (m : ℕ) → Counted x → writable_insert x ≡ true → Leads insert x x 0 (insert_bytes x * 8) m
+unfolding writable_insert
+insert_ends x m h f =
+    let a = and_true (eqb x.value.reserved 127) _ f in
+    insert_leads x.value.splice_event_id x.value.reserved x.value.splice_detail x.components m h a.0 a.1

@@ -7,20 +7,20 @@ use native.Mathlib.Omega.{arith}
 use lib.Dec.{eqb}
 use lib.ListN.{length}
 use borrow.Author.Tests.{eq-eqb, ne_eqb}
-use Rattle.splice_time.specs.Time.{spliceTime, timeRead}
+use Rattle.splice_time.specs.Time.{splice_time, time_read}
 use Rattle.splice_time.specs.declared.SpliceTime.{SpliceTime}
 use Rattle.splice_time.specs.declared.TimeRead.{TimeRead}
 use Rattle.splice_time.specs.declared.Timed.{Timed}
-use Rattle.splice_time.proofs.Times.{timed-got, timed-lacks}
+use Rattle.splice_time.proofs.Times.{timed_got, timed_lacks}
 use Rattle.table.specs.Bits.{pick, bits_of, field}
 use Rattle.table.specs.Table.{done, number, Answer, got, short, parse}
 use Rattle.table.specs.declared.cursor.Short.{Short}
 use Rattle.table.proofs.Lists.{zero_one}
 use Rattle.table.proofs.Reading.{bits_are}
-use Rattle.table.proofs.Steps.{takes-number, lacks-number, takes-remaining, takes_part, reads-number, reads-part}
-use Rattle.command.specs.Command.{private, read, empty, commandOf}
+use Rattle.table.proofs.Steps.{takes_number, lacks_number, takes_remaining, takes_part, reads_number, reads_part}
+use Rattle.command.specs.Command.{private, read, empty, command_of}
 use Rattle.command.specs.Insert.{WithComponents, insert}
-use Rattle.command.specs.Private.{insertRead}
+use Rattle.command.specs.Private.{insert_read}
 use Rattle.command.specs.declared.CommandRead.{CommandRead}
 use Rattle.command.specs.declared.Private.{Private}
 use Rattle.command.specs.declared.SpliceCommand.{SpliceCommand}
@@ -28,83 +28,83 @@ use Rattle.command.specs.declared.insert.SpliceInsert.{SpliceInsert}
 use Rattle.command.specs.declared.insert.InsertRead.{InsertRead}
 
 -- ---- an empty payload
-pub is-empty : (s : List ℕ) (c : SpliceCommand) → length s ≡ 0 → CommandRead.Is c ≡ empty c s
-is-empty s c e = rw (eq-eqb (length s) 0 e)
+pub is_empty : (s : List ℕ) (c : SpliceCommand) → length s ≡ 0 → CommandRead.Is c ≡ empty c s
+is_empty s c e = rw (eq-eqb (length s) 0 e)
 
-pub not-empty : (s : List ℕ) (c : SpliceCommand) → (length s ≡ 0 → ⊥) → CommandRead.Malformed ≡ empty c s
-not-empty s c e = rw (ne_eqb (length s) 0 e)
+pub not_empty : (s : List ℕ) (c : SpliceCommand) → (length s ≡ 0 → ⊥) → CommandRead.Malformed ≡ empty c s
+not_empty s c e = rw (ne_eqb (length s) 0 e)
 
 -- ---- a time signal
-pub signal : (r : Answer SpliceTime) (t : Timed) → TimeRead.Got t ≡ timeRead r → CommandRead.Is (SpliceCommand.TimeSignal t.time) ≡ read SpliceCommand.TimeSignal r
-signal r t e = rw (timed-got r t e).0
+pub signal : (r : Answer SpliceTime) (t : Timed) → TimeRead.Got t ≡ time_read r → CommandRead.Is (SpliceCommand.TimeSignal t.time) ≡ read SpliceCommand.TimeSignal r
+signal r t e = rw (timed_got r t e).0
 
-pub no-signal : (r : Answer SpliceTime) (x : Short) → TimeRead.Lacks x ≡ timeRead r → CommandRead.Malformed ≡ read SpliceCommand.TimeSignal r
-no-signal r x e = rw (timed-lacks r x e)
+pub no_signal : (r : Answer SpliceTime) (x : Short) → TimeRead.Lacks x ≡ time_read r → CommandRead.Malformed ≡ read SpliceCommand.TimeSignal r
+no_signal r x e = rw (timed_lacks r x e)
 
 -- ---- an insert
-pub insertion : (r : Answer (WithComponents SpliceInsert)) (i : SpliceInsert) → InsertRead.Got i ≡ insertRead r
+pub insertion : (r : Answer (WithComponents SpliceInsert)) (i : SpliceInsert) → InsertRead.Got i ≡ insert_read r
     → CommandRead.Is (SpliceCommand.SpliceInsert i) ≡ read (λ x. SpliceCommand.SpliceInsert x.value) r
-unfolding insertRead
+unfolding insert_read
 insertion (got x m) i e = cc
 insertion (short x a) i e = zero_one cc
 
-pub no-insertion : (r : Answer (WithComponents SpliceInsert)) (x : Short) → InsertRead.Lacks x ≡ insertRead r → CommandRead.Malformed ≡ read (λ x. SpliceCommand.SpliceInsert x.value) r
-unfolding insertRead
-no-insertion (got y m) x e = zero_one cc
-no-insertion (short y a) x e = refl
+pub no_insertion : (r : Answer (WithComponents SpliceInsert)) (x : Short) → InsertRead.Lacks x ≡ insert_read r → CommandRead.Malformed ≡ read (λ x. SpliceCommand.SpliceInsert x.value) r
+unfolding insert_read
+no_insertion (got y m) x e = zero_one cc
+no_insertion (short y a) x e = refl
 
 -- ---- a private command
 module _ (s : List ℕ) where
-  pub no-identifier : length s < 4 → CommandRead.Malformed ≡ read SpliceCommand.PrivateCommand (parse private (bits_of s) 0)
+  pub no_identifier : length s < 4 → CommandRead.Malformed ≡ read SpliceCommand.PrivateCommand (parse private (bits_of s) 0)
   unfolding private
-  no-identifier h = rw (lacks-number s 0 32 _ _ (omega (arith, h)))
+  no_identifier h = rw (lacks_number s 0 32 _ _ (omega (arith, h)))
 
-  pub identifier-is : (v : ℕ) → v ≡ field (bits_of s) 0 32 % 2 ^ 64 → (v ≡ field (bits_of s) 0 32) × (v < 2 ^ 32)
-  identifier-is v e = bits_are s 0 32 v (omega arith) e
+  pub identifier_is : (v : ℕ) → v ≡ field (bits_of s) 0 32 % 2 ^ 64 → (v ≡ field (bits_of s) 0 32) × (v < 2 ^ 32)
+  identifier_is v e = bits_are s 0 32 v (omega arith) e
 
   pub identified : (v : ℕ) → 4 ≤ length s → v ≡ field (bits_of s) 0 32
       → CommandRead.Is (SpliceCommand.PrivateCommand (record { identifier = v; private_bytes = record { at = 4; len = length s - 4 } })) ≡ read SpliceCommand.PrivateCommand (parse private (bits_of s) 0)
   unfolding private
   identified v four e =
       let m : (length s * 8 - 32) / 8 ≡ length s - 4 = omega arith in
-      rw (← m) (ap (read SpliceCommand.PrivateCommand) (sym (takes-number s 0 32 v _ _ (omega (arith, four)) e ∙ takes-remaining s 32 _ _ ∙ takes_part s 32 _ _ _ (omega (arith, four)))))
+      rw (← m) (ap (read SpliceCommand.PrivateCommand) (sym (takes_number s 0 32 v _ _ (omega (arith, four)) e ∙ takes_remaining s 32 _ _ ∙ takes_part s 32 _ _ _ (omega (arith, four)))))
 
 -- ---- by the type
-by-type : (k n : ℕ) (s : List ℕ) (r : CommandRead) → k ≡ n → r ≡ commandOf n s → r ≡ commandOf k s
-by-type k n s r e h = rw e h
+by_type_lem : (k n : ℕ) (s : List ℕ) (r : CommandRead) → k ≡ n → r ≡ command_of n s → r ≡ command_of k s
+by_type_lem k n s r e h = rw e h
 
 module _ (k : ℕ) (s : List ℕ) (r : CommandRead) where
-  pub of-null : k ≡ 0x00 → r ≡ empty SpliceCommand.SpliceNull s → r ≡ commandOf k s
-  unfolding commandOf
-  of-null e h = by-type k 0x00 s r e h
+  pub of_null : k ≡ 0x00 → r ≡ empty SpliceCommand.SpliceNull s → r ≡ command_of k s
+  unfolding command_of
+  of_null e h = by_type_lem k 0x00 s r e h
 
-  pub of-insert : k ≡ 0x05 → r ≡ read (λ x. SpliceCommand.SpliceInsert x.value) (parse insert (bits_of s) 0) → r ≡ commandOf k s
-  unfolding commandOf
-  of-insert e h = by-type k 0x05 s r e h
+  pub of_insert_lem : k ≡ 0x05 → r ≡ read (λ x. SpliceCommand.SpliceInsert x.value) (parse insert (bits_of s) 0) → r ≡ command_of k s
+  unfolding command_of
+  of_insert_lem e h = by_type_lem k 0x05 s r e h
 
-  pub of-signal : k ≡ 0x06 → r ≡ read SpliceCommand.TimeSignal (parse spliceTime (bits_of s) 0) → r ≡ commandOf k s
-  unfolding commandOf
-  of-signal e h = by-type k 0x06 s r e h
+  pub of_signal : k ≡ 0x06 → r ≡ read SpliceCommand.TimeSignal (parse splice_time (bits_of s) 0) → r ≡ command_of k s
+  unfolding command_of
+  of_signal e h = by_type_lem k 0x06 s r e h
 
-  pub of-reservation : k ≡ 0x07 → r ≡ empty SpliceCommand.BandwidthReservation s → r ≡ commandOf k s
-  unfolding commandOf
-  of-reservation e h = by-type k 0x07 s r e h
+  pub of_reservation : k ≡ 0x07 → r ≡ empty SpliceCommand.BandwidthReservation s → r ≡ command_of k s
+  unfolding command_of
+  of_reservation e h = by_type_lem k 0x07 s r e h
 
-  pub of-private : k ≡ 0xff → r ≡ read SpliceCommand.PrivateCommand (parse private (bits_of s) 0) → r ≡ commandOf k s
-  unfolding commandOf
-  of-private e h = by-type k 0xff s r e h
+  pub of_private_lem : k ≡ 0xff → r ≡ read SpliceCommand.PrivateCommand (parse private (bits_of s) 0) → r ≡ command_of k s
+  unfolding command_of
+  of_private_lem e h = by_type_lem k 0xff s r e h
 
-pub of_none : (k : ℕ) (s : List ℕ) → (k ≡ 0x00 → ⊥) → (k ≡ 0x05 → ⊥) → (k ≡ 0x06 → ⊥) → (k ≡ 0x07 → ⊥) → (k ≡ 0xff → ⊥) → CommandRead.UnknownType ≡ commandOf k s
-unfolding commandOf
+pub of_none : (k : ℕ) (s : List ℕ) → (k ≡ 0x00 → ⊥) → (k ≡ 0x05 → ⊥) → (k ≡ 0x06 → ⊥) → (k ≡ 0x07 → ⊥) → (k ≡ 0xff → ⊥) → CommandRead.UnknownType ≡ command_of k s
+unfolding command_of
 of_none k s h₁ h₂ h₃ h₄ h₅ = rw (ne_eqb k 0x00 h₁, ne_eqb k 0x05 h₂, ne_eqb k 0x06 h₃, ne_eqb k 0x07 h₄, ne_eqb k 0xff h₅)
 
 -- ---- the bytes of a private command begin behind its identifier
-private-at : (s : List ℕ) (p : Private) (m : ℕ) → parse private (bits_of s) 0 ≡ got p m → p.private_bytes.at ≡ 4
+private_at : (s : List ℕ) (p : Private) (m : ℕ) → parse private (bits_of s) 0 ≡ got p m → p.private_bytes.at ≡ 4
 unfolding private
-private-at s p m e =
-    let e₁ = (reads-number s 0 32 _ _ p m e).1 in
-    let e₂ = sym (takes-remaining s 32 _ _) ∙ e₁ in
-    let e₃ = (reads-part s 32 _ _ _ p m e₂).1 in
+private_at s p m e =
+    let e₁ = (reads_number s 0 32 _ _ p m e).1 in
+    let e₂ = sym (takes_remaining s 32 _ _) ∙ e₁ in
+    let e₃ = (reads_part s 32 _ _ _ p m e₂).1 in
     let z : p ≡ record { identifier = field (bits_of s) 0 32; private_bytes = record { at = 4; len = (length s * 8 - 32) / 8 } } = cc in
     ap (λ (x : Private). x.private_bytes.at) z
 
@@ -112,40 +112,40 @@ private-at s p m e =
 BehindFour : CommandRead → Type 0
 BehindFour r = (p : Private) → r ≡ CommandRead.Is (SpliceCommand.PrivateCommand p) → p.private_bytes.at ≡ 4
 
-pick-has : (P : CommandRead → Type 0) (b : Bool) (x y : CommandRead) → P x → P y → P (pick b x y)
-pick-has P true x y h k = h
-pick-has P false x y h k = k
+pick_has : (P : CommandRead → Type 0) (b : Bool) (x y : CommandRead) → P x → P y → P (pick b x y)
+pick_has P true x y h k = h
+pick_has P false x y h k = k
 
-no-private : {X : Type 0} (f : X → SpliceCommand) (r : Answer X) → ((x : X) (p : Private) → f x ≡ SpliceCommand.PrivateCommand p → ⊥) → BehindFour (read f r)
+no_private : {X : Type 0} (f : X → SpliceCommand) (r : Answer X) → ((x : X) (p : Private) → f x ≡ SpliceCommand.PrivateCommand p → ⊥) → BehindFour (read f r)
 unfolding BehindFour
-no-private f (got x m) h p e = absurd (h x p cc)
-no-private f (short x a) h p e = zero_one cc
+no_private f (got x m) h p e = absurd (h x p cc)
+no_private f (short x a) h p e = zero_one cc
 
-a-private : (s : List ℕ) (r : Answer Private) → ((p : Private) (m : ℕ) → r ≡ got p m → p.private_bytes.at ≡ 4) → BehindFour (read SpliceCommand.PrivateCommand r)
+a_private : (s : List ℕ) (r : Answer Private) → ((p : Private) (m : ℕ) → r ≡ got p m → p.private_bytes.at ≡ 4) → BehindFour (read SpliceCommand.PrivateCommand r)
 unfolding BehindFour
-a-private s (got x m) h p e =
+a_private s (got x m) h p e =
     let z : x ≡ p = cc in
     rw (← z) (h x m refl)
-a-private s (short x a) h p e = zero_one cc
+a_private s (short x a) h p e = zero_one cc
 
-empty-has : (b : Bool) (c : SpliceCommand) → ((p : Private) → c ≡ SpliceCommand.PrivateCommand p → ⊥) → BehindFour (pick b (CommandRead.Is c) CommandRead.Malformed)
+empty_has : (b : Bool) (c : SpliceCommand) → ((p : Private) → c ≡ SpliceCommand.PrivateCommand p → ⊥) → BehindFour (pick b (CommandRead.Is c) CommandRead.Malformed)
 unfolding BehindFour
-empty-has true c h p e = absurd (h p cc)
-empty-has false c h p e = zero_one cc
+empty_has true c h p e = absurd (h p cc)
+empty_has false c h p e = zero_one cc
 
 none_has : BehindFour CommandRead.UnknownType
 unfolding BehindFour
 none_has p e = zero_one cc
 
-behind-four : (k : ℕ) (s : List ℕ) → BehindFour (commandOf k s)
-unfolding commandOf
-behind-four k s =
-    pick-has BehindFour (eqb k 0x00) _ _ (empty-has (eqb (length s) 0) SpliceCommand.SpliceNull (λ p e. zero_one cc))
-    (pick-has BehindFour (eqb k 0x05) _ _ (no-private (λ x. SpliceCommand.SpliceInsert x.value) (parse insert (bits_of s) 0) (λ x p e. zero_one cc))
-    (pick-has BehindFour (eqb k 0x06) _ _ (no-private SpliceCommand.TimeSignal (parse spliceTime (bits_of s) 0) (λ x p e. zero_one cc))
-    (pick-has BehindFour (eqb k 0x07) _ _ (empty-has (eqb (length s) 0) SpliceCommand.BandwidthReservation (λ p e. zero_one cc))
-    (pick-has BehindFour (eqb k 0xff) _ _ (a-private s (parse private (bits_of s) 0) (private-at s)) none_has))))
+behind_four : (k : ℕ) (s : List ℕ) → BehindFour (command_of k s)
+unfolding command_of
+behind_four k s =
+    pick_has BehindFour (eqb k 0x00) _ _ (empty_has (eqb (length s) 0) SpliceCommand.SpliceNull (λ p e. zero_one cc))
+    (pick_has BehindFour (eqb k 0x05) _ _ (no_private (λ x. SpliceCommand.SpliceInsert x.value) (parse insert (bits_of s) 0) (λ x p e. zero_one cc))
+    (pick_has BehindFour (eqb k 0x06) _ _ (no_private SpliceCommand.TimeSignal (parse splice_time (bits_of s) 0) (λ x p e. zero_one cc))
+    (pick_has BehindFour (eqb k 0x07) _ _ (empty_has (eqb (length s) 0) SpliceCommand.BandwidthReservation (λ p e. zero_one cc))
+    (pick_has BehindFour (eqb k 0xff) _ _ (a_private s (parse private (bits_of s) 0) (private_at s)) none_has))))
 
-pub private-behind : (k : ℕ) (s : List ℕ) (p : Private) → commandOf k s ≡ CommandRead.Is (SpliceCommand.PrivateCommand p) → p.private_bytes.at ≡ 4
+pub private_behind : (k : ℕ) (s : List ℕ) (p : Private) → command_of k s ≡ CommandRead.Is (SpliceCommand.PrivateCommand p) → p.private_bytes.at ≡ 4
 unfolding BehindFour
-private-behind k s p e = behind-four k s p e
+private_behind k s p e = behind_four k s p e

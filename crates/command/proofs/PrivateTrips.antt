@@ -9,9 +9,9 @@ use Rattle.table.specs.Bits.{bits_of, AllBytes}
 use Rattle.table.specs.Table.{got, parse, canonical}
 use Rattle.table.specs.Writing.{Same, made, make}
 use Rattle.table.proofs.Laws.{Tells}
-use Rattle.table.proofs.Leading.{Leads, leads-done, leads-number, leads-remaining, leads-part}
+use Rattle.table.proofs.Leading.{Leads, leads_done, leads_number, leads_remaining, leads_part}
 use Rattle.table.proofs.Structure as laws
-use Rattle.table.proofs.Telling.{tells-number, tells-remaining, tells-part}
+use Rattle.table.proofs.Telling.{tells_number, tells_remaining, tells_part}
 use Rattle.command.specs.Command.{private}
 use Rattle.command.specs.declared.Private.{Private}
 
@@ -19,9 +19,9 @@ use Rattle.command.specs.declared.Private.{Private}
 tells : Tells private 0 (λ a y. (a % 8 ≡ 0) × (true ≡ true))
 unfolding private
 tells =
-    tells-number 32 _ _ 0 _ λ identifier h.
-    tells-remaining _ _ 32 _ λ n.
-    tells-part n _ _ 32 _ refl ((((omega arith, refl), refl), refl), refl)
+    tells_number 32 _ _ 0 _ λ identifier h.
+    tells_remaining _ _ 32 _ λ n.
+    tells_part n _ _ 32 _ refl ((((omega arith, refl), refl), refl), refl)
 
 -- its bytes stand after the identifier once it is written
 abbrev pub moved : Private → Private
@@ -30,10 +30,10 @@ moved x = record { identifier = x.identifier; private_bytes = record { at = 4; l
 ends : (x : Private) (m : ℕ) → m ≡ 0 → Leads private x (moved x) 0 ((4 + x.private_bytes.len) * 8) m
 unfolding private
 ends x m e =
-    leads-number 32 _ _ _ _ 0 _ m
-    (leads-remaining _ _ _ _ 32 _ m (omega arith)
-    (leads-part x.private_bytes.len _ _ _ _ 32 _ m
-    (leads-done x _ _ _ _ m refl (omega arith))))
+    leads_number 32 _ _ _ _ 0 _ m
+    (leads_remaining _ _ _ _ 32 _ m (omega arith)
+    (leads_part x.private_bytes.len _ _ _ _ 32 _ m
+    (leads_done x _ _ _ _ m refl (omega arith))))
 
 abbrev structure : laws.Structure private
 structure = record {
@@ -48,19 +48,19 @@ structure = record {
 }
 
 -- what is written of a private command reads as that command, its view at its new place, and is canonical
-pub private-write-read : (lent : List ℕ) (x : Private) (b r : List ℕ) → make private true lent x ≡ made b → length r ≡ 0
+pub private_write_read : (lent : List ℕ) (x : Private) (b r : List ℕ) → make private true lent x ≡ made b → length r ≡ 0
     → (parse private (bits_of (b ++ r)) 0 ≡ got (moved x) (length b * 8)) × (canonical private (bits_of (b ++ r)) 0 ≡ true)
-private-write-read lent x b r e n = laws.write_read private structure lent x b r tt e (omega arith)
+private_write_read lent x b r e n = laws.write_read private structure lent x b r tt e (omega arith)
 
 -- and that reading is equal to what was handed in
-pub private-write-same : (lent : List ℕ) (x : Private) (b : List ℕ) → AllBytes lent → make private true lent x ≡ made b → Same private b (moved x) lent x
-private-write-same lent x b a e = laws.write_same private structure lent x b a tt e
+pub private_write_same : (lent : List ℕ) (x : Private) (b : List ℕ) → AllBytes lent → make private true lent x ≡ made b → Same private b (moved x) lent x
+private_write_same lent x b a e = laws.write_same private structure lent x b a tt e
 
 -- bytes are what is written of their reading
-pub private-read-write : (s : List ℕ) (x : Private) → AllBytes s → parse private (bits_of s) 0 ≡ got x (length s * 8) → canonical private (bits_of s) 0 ≡ true → make private true s x ≡ made s
-private-read-write s x a e c = laws.read-write-all private structure s x a e c
+pub private_read_write : (s : List ℕ) (x : Private) → AllBytes s → parse private (bits_of s) 0 ≡ got x (length s * 8) → canonical private (bits_of s) 0 ≡ true → make private true s x ≡ made s
+private_read_write s x a e c = laws.read_write_all private structure s x a e c
 
 -- bytes of equal readings are equal
-pub private-one : (s r : List ℕ) (x y : Private) → AllBytes s → AllBytes r → parse private (bits_of s) 0 ≡ got x (length s * 8) → parse private (bits_of r) 0 ≡ got y (length r * 8)
+pub private_one : (s r : List ℕ) (x y : Private) → AllBytes s → AllBytes r → parse private (bits_of s) 0 ≡ got x (length s * 8) → parse private (bits_of r) 0 ≡ got y (length r * 8)
     → canonical private (bits_of s) 0 ≡ true → canonical private (bits_of r) 0 ≡ true → Same private s x r y → s ≡ r
-private-one s r x y a b p q c d h = laws.write-one private structure s r x y a b p q c d h
+private_one s r x y a b p q c d h = laws.write_one private structure s r x y a b p q c d h

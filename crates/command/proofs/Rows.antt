@@ -4,13 +4,13 @@ use mathlib.Core.Bool.{true, false}
 use mathlib.Core.List.{List, [], ◌∷◌}
 use mathlib.Core.Path.{◌≡◌, refl}
 use lib.ListN.{length}
-use Rattle.splice_time.specs.Time.{spliceTime}
+use Rattle.splice_time.specs.Time.{splice_time}
 use Rattle.names.specs.declared.flags.NetworkIndicator.{NetworkIndicator}
 use Rattle.table.specs.Bits.{bits_of}
 use Rattle.table.specs.Table.{number, bit, reserved, part, remaining, list, got, parse, canonical}
 use Rattle.command.specs.Command.{private, array}
-use Rattle.splice_time.specs.Break.{breakDuration}
-use Rattle.command.specs.Insert.{WithComponents, timeUnless, component, moded, ending, active, insert}
+use Rattle.splice_time.specs.Break.{break_duration}
+use Rattle.command.specs.Insert.{WithComponents, time_unless, component, moded, ending, active, insert}
 use Rattle.splice_time.specs.declared.break_duration.Break.{Break}
 use Rattle.command.specs.declared.insert.SpliceInsert.{SpliceInsert}
 use Rattle.command.specs.declared.insert.SpliceDetail.{SpliceDetail}
@@ -41,27 +41,27 @@ empty = record {
 }
 
 -- "equal readings"
-pub row-m-timed : parse insert (bits_of timed) 0 ≡ got empty 88
-unfolding insert active ending moded breakDuration timeUnless component spliceTime number bit reserved list
-row-m-timed = refl
+pub row_m_timed : parse insert (bits_of timed) 0 ≡ got empty 88
+unfolding insert active ending moded break_duration time_unless component splice_time number bit reserved list
+row_m_timed = refl
 
-pub row-m-immediate : parse insert (bits_of immediate) 0 ≡ got empty 88
-unfolding insert active ending moded breakDuration timeUnless component spliceTime number bit reserved list
-row-m-immediate = refl
+pub row_m_immediate : parse insert (bits_of immediate) 0 ≡ got empty 88
+unfolding insert active ending moded break_duration time_unless component splice_time number bit reserved list
+row_m_immediate = refl
 
 -- "only the first canonical"
-pub row-m-canonical : canonical insert (bits_of timed) 0 ≡ true
-unfolding insert active ending moded breakDuration timeUnless component spliceTime number bit reserved list
-row-m-canonical = refl
+pub row_m_canonical : canonical insert (bits_of timed) 0 ≡ true
+unfolding insert active ending moded break_duration time_unless component splice_time number bit reserved list
+row_m_canonical = refl
 
-pub row-m-not : canonical insert (bits_of immediate) 0 ≡ false
-unfolding insert active ending moded breakDuration timeUnless component spliceTime number bit reserved list
-row-m-not = refl
+pub row_m_not : canonical insert (bits_of immediate) 0 ≡ false
+unfolding insert active ending moded break_duration time_unless component splice_time number bit reserved list
+row_m_not = refl
 
 -- ---- a private command: the rest is a view
-pub row-private : parse private (bits_of (0x01 ∷ 0x02 ∷ 0x03 ∷ 0x04 ∷ 0x09 ∷ 0x09 ∷ [])) 0 ≡ got (record { identifier = 16909060; private_bytes = record { at = 4; len = 2 } }) 48
+pub row_private : parse private (bits_of (0x01 ∷ 0x02 ∷ 0x03 ∷ 0x04 ∷ 0x09 ∷ 0x09 ∷ [])) 0 ≡ got (record { identifier = 16909060; private_bytes = record { at = 4; len = 2 } }) 48
 unfolding private number part remaining
-row-private = refl
+row_private = refl
 
 -- ---- the array of no components has all its places
 pub array_places : length (array []) ≡ 255

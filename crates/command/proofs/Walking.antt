@@ -8,26 +8,26 @@ use native.Mathlib.Omega.{arith}
 use lib.Dec.{eqb}
 use lib.ListN.{length, get_or}
 use Rattle.table.proofs.Reading.{first_bit}
-use Rattle.splice_time.specs.Break.{breakDuration, breakRead}
-use Rattle.splice_time.specs.Time.{spliceTime, timeRead}
+use Rattle.splice_time.specs.Break.{break_duration, break_read}
+use Rattle.splice_time.specs.Time.{splice_time, time_read}
 use Rattle.splice_time.specs.declared.SpliceTime.TheVariants.{Immediate}
 use Rattle.splice_time.specs.declared.TimeRead.{TimeRead}
 use Rattle.splice_time.specs.declared.Timed.{Timed}
 use Rattle.splice_time.specs.declared.break_duration.BreakRead.{BreakRead}
 use Rattle.splice_time.specs.declared.break_duration.Broken.{Broken}
-use Rattle.splice_time.proofs.Breaks.{lacks-break, break-there, break-within}
-use Rattle.splice_time.proofs.Times.{timed-got, timed-lacks}
+use Rattle.splice_time.proofs.Breaks.{lacks_break, break_there, break_within}
+use Rattle.splice_time.proofs.Times.{timed_got, timed_lacks}
 use Rattle.names.specs.declared.flags.NetworkIndicator.{NetworkIndicator}
 use Rattle.table.specs.Bits.{pick, bits_of, field}
-use Rattle.table.specs.Cursor.{place, cursorAt}
+use Rattle.table.specs.Cursor.{place, cursor_at}
 use Rattle.table.specs.Table.{done, inside, list, Answer, got, short, parse}
 use Rattle.table.specs.declared.cursor.Cursor.{Cursor}
 use Rattle.table.specs.declared.cursor.Short.{Short}
-use Rattle.table.proofs.Bits.{length-bits}
-use Rattle.table.proofs.Fields.{byte-field, field_in}
-use Rattle.table.proofs.Steps.{takes-in, lacks-in, takes-number, lacks-number, takes-flag, lacks-flag, takes-ones, parse-bound, onward, list-turn, list-short, list-none}
-use Rattle.command.specs.Insert.{WithComponents, timeUnless, component, blank, moded, ending, active, activeOf, insert, mode_of}
-use Rattle.command.specs.Private.{componentRead, skimmedOf, modedRead, activeRead, insertRead}
+use Rattle.table.proofs.Bits.{length_bits}
+use Rattle.table.proofs.Fields.{byte_field, field_in}
+use Rattle.table.proofs.Steps.{takes_in, lacks_in, takes_number, lacks_number, takes_flag, lacks_flag, takes_ones, parse_bound, onward, list_turn, list_short, list_none}
+use Rattle.command.specs.Insert.{WithComponents, time_unless, component, blank, moded, ending, active, active_of, insert, mode_of}
+use Rattle.command.specs.Private.{component_read, skimmed_of, moded_read, active_read, insert_read}
 use Rattle.command.specs.declared.components.ComponentRead.{ComponentRead}
 use Rattle.command.specs.declared.components.InsertComponent.{InsertComponent}
 use Rattle.command.specs.declared.components.Component.{Component}
@@ -39,15 +39,15 @@ use Rattle.command.specs.declared.insert.Moded.{Moded}
 use Rattle.command.specs.declared.insert.ModedRead.{ModedRead}
 use Rattle.command.specs.declared.insert.SpliceDetail.{SpliceDetail}
 use Rattle.command.specs.declared.insert.SpliceMode.{SpliceMode}
-use Rattle.command.proofs.Answers.{component-got, component-lacks, got-component, lacks-component, skim-got, skim-lacks, got-skim, lacks-skim, mode-got, mode-lacks, Modes, got-mode, lacks-mode, active-got, active-lacks, got-active, lacks-active, insert-got, insert-lacks}
-use Rattle.command.proofs.Alignments.{aligned-time-unless, aligned-component, aligned-list, aligned-mode}
+use Rattle.command.proofs.Answers.{component_got, component_lacks, got_component, lacks_component, skim_got, skim_lacks, got_skim, lacks_skim, mode_got, mode_lacks, Modes, got_mode, lacks_mode, active_got, active_lacks, got_active, lacks_active, insert_got, insert_lacks}
+use Rattle.command.proofs.Alignments.{aligned_time_unless, aligned_component, aligned_list, aligned_mode}
 
 -- a byte's first bit is where a byte begins
 begins : (i : ℕ) → i * 8 % 8 ≡ 0
 begins i = omega arith
 
-next-byte : (i : ℕ) → (i + 1) * 8 ≡ i * 8 + 8
-next-byte i = omega arith
+next_byte : (i : ℕ) → (i + 1) * 8 ≡ i * 8 + 8
+next_byte i = omega arith
 
 -- the bit of a byte f that has j bits before it and k after it
 module _ (s : List ℕ) (i f : ℕ) (there : i < length s) (is : f ≡ get_or s i 0) (byte : f < 256) where
@@ -55,149 +55,149 @@ module _ (s : List ℕ) (i f : ℕ) (there : i < length s) (is : f ≡ get_or s 
   one_bit j k at e h = ap (λ (p : ℕ). field (bits_of s) p 1) e ∙ field_in s i there (rw is at byte) j 1 k h ∙ ap (λ (x : ℕ). x / 2 ^ k % 2) (sym is)
 
 -- ---- a splice_time unless immediate
-pub at_once : (s : List ℕ) (i : ℕ) → TimeRead.Got (record { time = Immediate; next = record { byte = i; bit = 0 } }) ≡ timeRead (parse (timeUnless true) (bits_of s) (i * 8))
-unfolding timeUnless timeRead cursorAt
+pub at_once : (s : List ℕ) (i : ℕ) → TimeRead.Got (record { time = Immediate; next = record { byte = i; bit = 0 } }) ≡ time_read (parse (time_unless true) (bits_of s) (i * 8))
+unfolding time_unless time_read cursor_at
 at_once s i =
     let b : i * 8 / 8 ≡ i = omega arith in
     rw (b, begins i)
 
-pub at-a-time : (s : List ℕ) (i : ℕ) (r : TimeRead) → r ≡ timeRead (parse spliceTime (bits_of s) (i * 8)) → r ≡ timeRead (parse (timeUnless false) (bits_of s) (i * 8))
-unfolding timeUnless
-at-a-time s i r e = e
+pub at_a_time : (s : List ℕ) (i : ℕ) (r : TimeRead) → r ≡ time_read (parse splice_time (bits_of s) (i * 8)) → r ≡ time_read (parse (time_unless false) (bits_of s) (i * 8))
+unfolding time_unless
+at_a_time s i r e = e
 
 -- one that was read, and the byte after it
-timed : (s : List ℕ) (b : Bool) (i : ℕ) (t : Timed) → TimeRead.Got t ≡ timeRead (parse (timeUnless b) (bits_of s) (i * 8)) → parse (timeUnless b) (bits_of s) (i * 8) ≡ got t.time (t.next.byte * 8)
-unfolding cursorAt
+timed : (s : List ℕ) (b : Bool) (i : ℕ) (t : Timed) → TimeRead.Got t ≡ time_read (parse (time_unless b) (bits_of s) (i * 8)) → parse (time_unless b) (bits_of s) (i * 8) ≡ got t.time (t.next.byte * 8)
+unfolding cursor_at
 timed s b i t e =
-    let g = timed-got (parse (timeUnless b) (bits_of s) (i * 8)) t e in
-    let w : place t.next % 8 ≡ 0 = aligned-time-unless s b (i * 8) (begins i) _ _ g.0 in
+    let g = timed_got (parse (time_unless b) (bits_of s) (i * 8)) t e in
+    let w : place t.next % 8 ≡ 0 = aligned_time_unless s b (i * 8) (begins i) _ _ g.0 in
     let d : place t.next / 8 ≡ t.next.byte = ap (λ (c : Cursor). c.byte) g.1 in
     let z : place t.next ≡ t.next.byte * 8 = omega (arith, w, d) in
     g.0 ∙ ap (got t.time) z
 
 -- ---- a component
 module _ (s : List ℕ) (i : ℕ) (b : Bool) where
-  pub no-tag : length s ≤ i → ComponentRead.Lacks (record { expected = 1; actual = 0 }) ≡ componentRead (parse (component b) (bits_of s) (i * 8))
+  pub no_tag : length s ≤ i → ComponentRead.Lacks (record { expected = 1; actual = 0 }) ≡ component_read (parse (component b) (bits_of s) (i * 8))
   unfolding component
-  no-tag h =
+  no_tag h =
       let z : (length s * 8 - i * 8) / 8 ≡ 0 = omega arith in
-      component-lacks _ _ (lacks-number s (i * 8) 8 _ _ (omega arith) ∙ ap (short 1) z)
+      component_lacks _ _ (lacks_number s (i * 8) 8 _ _ (omega arith) ∙ ap (short 1) z)
 
   module _ (there : i < length s) (byte : get_or s i 0 < 256) where
-    pub no-splice-time : (x : Short) → TimeRead.Lacks x ≡ timeRead (parse (timeUnless b) (bits_of s) ((i + 1) * 8)) → ComponentRead.Lacks x ≡ componentRead (parse (component b) (bits_of s) (i * 8))
+    pub no_splice_time : (x : Short) → TimeRead.Lacks x ≡ time_read (parse (time_unless b) (bits_of s) ((i + 1) * 8)) → ComponentRead.Lacks x ≡ component_read (parse (component b) (bits_of s) (i * 8))
     unfolding component
-    no-splice-time x e =
-        component-lacks _ x (takes-number s (i * 8) 8 (get_or s i 0) _ _ (omega arith) (sym (byte-field s i there byte))
-        ∙ lacks-in (timeUnless b) _ _ (bits_of s) _ _ _ (rw next-byte at (timed-lacks _ x e)))
+    no_splice_time x e =
+        component_lacks _ x (takes_number s (i * 8) 8 (get_or s i 0) _ _ (omega arith) (sym (byte_field s i there byte))
+        ∙ lacks_in (time_unless b) _ _ (bits_of s) _ _ _ (rw next_byte at (timed_lacks _ x e)))
 
-    pub a-component : (t : Timed) → TimeRead.Got t ≡ timeRead (parse (timeUnless b) (bits_of s) ((i + 1) * 8))
-        → ComponentRead.Got (record { component = record { component_tag = get_or s i 0; splice_time = t.time }; next = t.next.byte }) ≡ componentRead (parse (component b) (bits_of s) (i * 8))
+    pub a_component : (t : Timed) → TimeRead.Got t ≡ time_read (parse (time_unless b) (bits_of s) ((i + 1) * 8))
+        → ComponentRead.Got (record { component = record { component_tag = get_or s i 0; splice_time = t.time }; next = t.next.byte }) ≡ component_read (parse (component b) (bits_of s) (i * 8))
     unfolding component
-    a-component t e =
-        component-got _ _ t.next.byte (takes-number s (i * 8) 8 (get_or s i 0) _ _ (omega arith) (sym (byte-field s i there byte))
-        ∙ takes-in (timeUnless b) _ _ (bits_of s) _ _ _ (rw next-byte at (timed s b (i + 1) t e)))
+    a_component t e =
+        component_got _ _ t.next.byte (takes_number s (i * 8) 8 (get_or s i 0) _ _ (omega arith) (sym (byte_field s i there byte))
+        ∙ takes_in (time_unless b) _ _ (bits_of s) _ _ _ (rw next_byte at (timed s b (i + 1) t e)))
 
 -- ---- components
-skim-on : (bs : List ℕ) (y : InsertComponent) (r : Answer (List InsertComponent)) → skimmedOf (onward bs (λ ys. done (y ∷ ys)) r) ≡ skimmedOf r
-unfolding skimmedOf
-skim-on bs y (got ys m) = refl
-skim-on bs y (short e a) = refl
+skim_on : (bs : List ℕ) (y : InsertComponent) (r : Answer (List InsertComponent)) → skimmed_of (onward bs (λ ys. done (y ∷ ys)) r) ≡ skimmed_of r
+unfolding skimmed_of
+skim_on bs y (got ys m) = refl
+skim_on bs y (short e a) = refl
 
 module _ (s : List ℕ) (b : Bool) where
   -- a component that was read, and the byte after it
-  pub component-there : (i : ℕ) (y : Component) → ComponentRead.Got y ≡ componentRead (parse (component b) (bits_of s) (i * 8)) → parse (component b) (bits_of s) (i * 8) ≡ got y.component (y.next * 8)
-  component-there i y e = got-component _ y (aligned-component s b (i * 8) (begins i)) e
+  pub component_there : (i : ℕ) (y : Component) → ComponentRead.Got y ≡ component_read (parse (component b) (bits_of s) (i * 8)) → parse (component b) (bits_of s) (i * 8) ≡ got y.component (y.next * 8)
+  component_there i y e = got_component _ y (aligned_component s b (i * 8) (begins i)) e
 
   -- what is left gives what the whole gives
-  pub turn : (n i : ℕ) (y : Component) → ComponentRead.Got y ≡ componentRead (parse (component b) (bits_of s) (i * 8))
-      → skimmedOf (parse (list n blank (component b)) (bits_of s) (y.next * 8)) ≡ skimmedOf (parse (list (suc n) blank (component b)) (bits_of s) (i * 8))
+  pub turn : (n i : ℕ) (y : Component) → ComponentRead.Got y ≡ component_read (parse (component b) (bits_of s) (i * 8))
+      → skimmed_of (parse (list n blank (component b)) (bits_of s) (y.next * 8)) ≡ skimmed_of (parse (list (suc n) blank (component b)) (bits_of s) (i * 8))
   turn n i y e =
-      sym (ap skimmedOf (list-turn n blank (component b) (bits_of s) (i * 8) y.component (y.next * 8) (component-there i y e))
-      ∙ skim-on (bits_of s) y.component (parse (list n blank (component b)) (bits_of s) (y.next * 8)))
+      sym (ap skimmed_of (list_turn n blank (component b) (bits_of s) (i * 8) y.component (y.next * 8) (component_there i y e))
+      ∙ skim_on (bits_of s) y.component (parse (list n blank (component b)) (bits_of s) (y.next * 8)))
 
-  pub turn-lacks : (n at : ℕ) (x : Short) → ComponentRead.Lacks x ≡ componentRead (parse (component b) (bits_of s) at)
-      → Skimmed.Lacks x ≡ skimmedOf (parse (list (suc n) blank (component b)) (bits_of s) at)
-  turn-lacks n at x e = skim-lacks _ x (list-short n blank (component b) (bits_of s) at _ _ (lacks-component (parse (component b) (bits_of s) at) x e))
+  pub turn_lacks : (n at : ℕ) (x : Short) → ComponentRead.Lacks x ≡ component_read (parse (component b) (bits_of s) at)
+      → Skimmed.Lacks x ≡ skimmed_of (parse (list (suc n) blank (component b)) (bits_of s) at)
+  turn_lacks n at x e = skim_lacks _ x (list_short n blank (component b) (bits_of s) at _ _ (lacks_component (parse (component b) (bits_of s) at) x e))
 
-  pub all-skimmed : (i : ℕ) → Skimmed.Got i ≡ skimmedOf (parse (list 0 blank (component b)) (bits_of s) (i * 8))
-  all-skimmed i = skim-got _ [] i (list-none blank (component b) (bits_of s) (i * 8))
+  pub all_skimmed : (i : ℕ) → Skimmed.Got i ≡ skimmed_of (parse (list 0 blank (component b)) (bits_of s) (i * 8))
+  all_skimmed i = skim_got _ [] i (list_none blank (component b) (bits_of s) (i * 8))
 
 -- ---- the mode
 module _ (s : List ℕ) (i : ℕ) (b : Bool) where
-  pub by-program : (t : Timed) → TimeRead.Got t ≡ timeRead (parse (timeUnless b) (bits_of s) (i * 8))
-      → ModedRead.Got (record { mode = SpliceMode.Program t.time; next = t.next.byte }) ≡ modedRead (parse (moded true b) (bits_of s) (i * 8))
+  pub by_program_lem : (t : Timed) → TimeRead.Got t ≡ time_read (parse (time_unless b) (bits_of s) (i * 8))
+      → ModedRead.Got (record { mode = SpliceMode.Program t.time; next = t.next.byte }) ≡ moded_read (parse (moded true b) (bits_of s) (i * 8))
   unfolding moded
-  by-program t e = mode-got _ _ [] t.next.byte (takes-in (timeUnless b) _ _ (bits_of s) (i * 8) _ _ (timed s b i t e))
+  by_program_lem t e = mode_got _ _ [] t.next.byte (takes_in (time_unless b) _ _ (bits_of s) (i * 8) _ _ (timed s b i t e))
 
-  pub no-program-time : (x : Short) → TimeRead.Lacks x ≡ timeRead (parse (timeUnless b) (bits_of s) (i * 8)) → ModedRead.Lacks x ≡ modedRead (parse (moded true b) (bits_of s) (i * 8))
+  pub no_program_time : (x : Short) → TimeRead.Lacks x ≡ time_read (parse (time_unless b) (bits_of s) (i * 8)) → ModedRead.Lacks x ≡ moded_read (parse (moded true b) (bits_of s) (i * 8))
   unfolding moded
-  no-program-time x e = mode-lacks _ x (lacks-in (timeUnless b) _ _ (bits_of s) (i * 8) _ _ (timed-lacks _ x e))
+  no_program_time x e = mode_lacks _ x (lacks_in (time_unless b) _ _ (bits_of s) (i * 8) _ _ (timed_lacks _ x e))
 
-  pub no-count : length s ≤ i → ModedRead.Lacks (record { expected = 1; actual = 0 }) ≡ modedRead (parse (moded false b) (bits_of s) (i * 8))
+  pub no_count : length s ≤ i → ModedRead.Lacks (record { expected = 1; actual = 0 }) ≡ moded_read (parse (moded false b) (bits_of s) (i * 8))
   unfolding moded
-  no-count h =
+  no_count h =
       let z : (length s * 8 - i * 8) / 8 ≡ 0 = omega arith in
-      mode-lacks _ _ (lacks-number s (i * 8) 8 _ _ (omega arith) ∙ ap (short 1) z)
+      mode_lacks _ _ (lacks_number s (i * 8) 8 _ _ (omega arith) ∙ ap (short 1) z)
 
   module _ (there : i < length s) (byte : get_or s i 0 < 256) where
-    pub no-components : (x : Short) → Skimmed.Lacks x ≡ skimmedOf (parse (list (get_or s i 0) blank (component b)) (bits_of s) ((i + 1) * 8))
-        → ModedRead.Lacks x ≡ modedRead (parse (moded false b) (bits_of s) (i * 8))
+    pub no_components_lem : (x : Short) → Skimmed.Lacks x ≡ skimmed_of (parse (list (get_or s i 0) blank (component b)) (bits_of s) ((i + 1) * 8))
+        → ModedRead.Lacks x ≡ moded_read (parse (moded false b) (bits_of s) (i * 8))
     unfolding moded
-    no-components x e =
-        mode-lacks _ x (takes-number s (i * 8) 8 (get_or s i 0) _ _ (omega arith) (sym (byte-field s i there byte))
-        ∙ lacks-in (list (get_or s i 0) blank (component b)) _ _ (bits_of s) _ _ _ (rw next-byte at (lacks-skim _ x e)))
+    no_components_lem x e =
+        mode_lacks _ x (takes_number s (i * 8) 8 (get_or s i 0) _ _ (omega arith) (sym (byte_field s i there byte))
+        ∙ lacks_in (list (get_or s i 0) blank (component b)) _ _ (bits_of s) _ _ _ (rw next_byte at (lacks_skim _ x e)))
 
-    pub by-components : (n : ℕ) → Skimmed.Got n ≡ skimmedOf (parse (list (get_or s i 0) blank (component b)) (bits_of s) ((i + 1) * 8))
-        → ModedRead.Got (record { mode = SpliceMode.Components (get_or s i 0); next = n }) ≡ modedRead (parse (moded false b) (bits_of s) (i * 8))
+    pub by_components : (n : ℕ) → Skimmed.Got n ≡ skimmed_of (parse (list (get_or s i 0) blank (component b)) (bits_of s) ((i + 1) * 8))
+        → ModedRead.Got (record { mode = SpliceMode.Components (get_or s i 0); next = n }) ≡ moded_read (parse (moded false b) (bits_of s) (i * 8))
     unfolding moded
-    by-components n e =
-        let g = got-skim (parse (list (get_or s i 0) blank (component b)) (bits_of s) ((i + 1) * 8)) n (aligned-list s b (get_or s i 0) ((i + 1) * 8) (begins (i + 1))) e in
-        mode-got _ _ g.list n (takes-number s (i * 8) 8 (get_or s i 0) _ _ (omega arith) (sym (byte-field s i there byte))
-        ∙ takes-in (list (get_or s i 0) blank (component b)) _ _ (bits_of s) _ _ _ (ap (λ (p : ℕ). parse (list (get_or s i 0) blank (component b)) (bits_of s) p) (sym (next-byte i)) ∙ g.is))
+    by_components n e =
+        let g = got_skim (parse (list (get_or s i 0) blank (component b)) (bits_of s) ((i + 1) * 8)) n (aligned_list s b (get_or s i 0) ((i + 1) * 8) (begins (i + 1))) e in
+        mode_got _ _ g.list n (takes_number s (i * 8) 8 (get_or s i 0) _ _ (omega arith) (sym (byte_field s i there byte))
+        ∙ takes_in (list (get_or s i 0) blank (component b)) _ _ (bits_of s) _ _ _ (ap (λ (p : ℕ). parse (list (get_or s i 0) blank (component b)) (bits_of s) p) (sym (next_byte i)) ∙ g.is))
 
 -- ---- from the duration on
 module _ (s : List ℕ) (i : ℕ) (room : i ≤ length s) (out : Bool) (m : WithComponents SpliceMode) (b : Bool) where
-  pub no-ending : (x : Short) → BreakRead.Lacks x ≡ breakRead (parse (breakDuration b) (bits_of s) (i * 8)) → ActiveRead.Lacks x ≡ activeRead (parse (ending out m b) (bits_of s) (i * 8))
+  pub no_ending : (x : Short) → BreakRead.Lacks x ≡ break_read (parse (break_duration b) (bits_of s) (i * 8)) → ActiveRead.Lacks x ≡ active_read (parse (ending out m b) (bits_of s) (i * 8))
   unfolding ending
-  no-ending x e = active-lacks _ x (lacks-in (breakDuration b) _ _ (bits_of s) (i * 8) _ _ (lacks-break _ x e))
+  no_ending x e = active_lacks _ x (lacks_in (break_duration b) _ _ (bits_of s) (i * 8) _ _ (lacks_break _ x e))
 
-  module _ (d : Broken) (ed : BreakRead.Got d ≡ breakRead (parse (breakDuration b) (bits_of s) (i * 8))) where
-    broken : parse (breakDuration b) (bits_of s) (i * 8) ≡ got d.duration (d.next * 8)
-    broken = break-there s i room b d ed
+  module _ (d : Broken) (ed : BreakRead.Got d ≡ break_read (parse (break_duration b) (bits_of s) (i * 8))) where
+    broken : parse (break_duration b) (bits_of s) (i * 8) ≡ got d.duration (d.next * 8)
+    broken = break_there s i room b d ed
 
     within : d.next ≤ length s
-    within = break-within s i room b d ed
+    within = break_within s i room b d ed
 
     module _ (n : ℕ) (en : n ≡ length s - d.next) where
-      pub no-program-id : n < 2 → ActiveRead.Lacks (record { expected = 2; actual = n }) ≡ activeRead (parse (ending out m b) (bits_of s) (i * 8))
+      pub no_program_id : n < 2 → ActiveRead.Lacks (record { expected = 2; actual = n }) ≡ active_read (parse (ending out m b) (bits_of s) (i * 8))
       unfolding ending
-      no-program-id h =
+      no_program_id h =
           let z : (length s * 8 - d.next * 8) / 8 ≡ n = omega arith in
-          active-lacks _ _ (takes-in (breakDuration b) _ _ (bits_of s) (i * 8) _ _ broken ∙ lacks-number s (d.next * 8) 16 _ _ (omega (arith, within)) ∙ ap (short 2) z)
+          active_lacks _ _ (takes_in (break_duration b) _ _ (bits_of s) (i * 8) _ _ broken ∙ lacks_number s (d.next * 8) 16 _ _ (omega (arith, within)) ∙ ap (short 2) z)
 
-      no-avail : 2 ≤ n → n < 3 → ActiveRead.Lacks (record { expected = 1; actual = 0 }) ≡ activeRead (parse (ending out m b) (bits_of s) (i * 8))
+      no_avail : 2 ≤ n → n < 3 → ActiveRead.Lacks (record { expected = 1; actual = 0 }) ≡ active_read (parse (ending out m b) (bits_of s) (i * 8))
       unfolding ending
-      no-avail g h =
+      no_avail g h =
           let z : (length s * 8 - (d.next * 8 + 16)) / 8 ≡ 0 = omega arith in
-          active-lacks _ _ (takes-in (breakDuration b) _ _ (bits_of s) (i * 8) _ _ broken ∙ takes-number s (d.next * 8) 16 _ _ _ (omega arith) refl
-          ∙ lacks-number s (d.next * 8 + 16) 8 _ _ (omega (arith, within)) ∙ ap (short 1) z)
+          active_lacks _ _ (takes_in (break_duration b) _ _ (bits_of s) (i * 8) _ _ broken ∙ takes_number s (d.next * 8) 16 _ _ _ (omega arith) refl
+          ∙ lacks_number s (d.next * 8 + 16) 8 _ _ (omega (arith, within)) ∙ ap (short 1) z)
 
-      no-expected : 3 ≤ n → n < 4 → ActiveRead.Lacks (record { expected = 1; actual = 0 }) ≡ activeRead (parse (ending out m b) (bits_of s) (i * 8))
+      no_expected : 3 ≤ n → n < 4 → ActiveRead.Lacks (record { expected = 1; actual = 0 }) ≡ active_read (parse (ending out m b) (bits_of s) (i * 8))
       unfolding ending
-      no-expected g h =
+      no_expected g h =
           let z : (length s * 8 - (d.next * 8 + 16 + 8)) / 8 ≡ 0 = omega arith in
-          active-lacks _ _ (takes-in (breakDuration b) _ _ (bits_of s) (i * 8) _ _ broken ∙ takes-number s (d.next * 8) 16 _ _ _ (omega arith) refl
-          ∙ takes-number s (d.next * 8 + 16) 8 _ _ _ (omega arith) refl ∙ lacks-number s (d.next * 8 + 16 + 8) 8 _ _ (omega (arith, within)) ∙ ap (short 1) z)
+          active_lacks _ _ (takes_in (break_duration b) _ _ (bits_of s) (i * 8) _ _ broken ∙ takes_number s (d.next * 8) 16 _ _ _ (omega arith) refl
+          ∙ takes_number s (d.next * 8 + 16) 8 _ _ _ (omega arith) refl ∙ lacks_number s (d.next * 8 + 16 + 8) 8 _ _ (omega (arith, within)) ∙ ap (short 1) z)
 
       -- the one or the other
-      pub no-avails : 2 ≤ n → n < 4 → ActiveRead.Lacks (record { expected = 1; actual = 0 }) ≡ activeRead (parse (ending out m b) (bits_of s) (i * 8))
-      no-avails g h = go (n - 2) refl
+      pub no_avails : 2 ≤ n → n < 4 → ActiveRead.Lacks (record { expected = 1; actual = 0 }) ≡ active_read (parse (ending out m b) (bits_of s) (i * 8))
+      no_avails g h = go (n - 2) refl
         where
-          go : (k : ℕ) → k ≡ n - 2 → ActiveRead.Lacks (record { expected = 1; actual = 0 }) ≡ activeRead (parse (ending out m b) (bits_of s) (i * 8))
-          go zero e = no-avail g (omega arith)
-          go (suc k) e = no-expected (omega arith) h
+          go : (k : ℕ) → k ≡ n - 2 → ActiveRead.Lacks (record { expected = 1; actual = 0 }) ≡ active_read (parse (ending out m b) (bits_of s) (i * 8))
+          go zero e = no_avail g (omega arith)
+          go (suc k) e = no_expected (omega arith) h
 
-    pub an-ending : (v : ℕ) (o : NetworkIndicator) → d.next + 4 ≤ length s → v ≡ field (bits_of s) (d.next * 8) 16 → get_or s (d.next + 2) 0 < 256 → get_or s (d.next + 3) 0 < 256
+    pub an_ending : (v : ℕ) (o : NetworkIndicator) → d.next + 4 ≤ length s → v ≡ field (bits_of s) (d.next * 8) 16 → get_or s (d.next + 2) 0 < 256 → get_or s (d.next + 3) 0 < 256
         → o ≡ pick out NetworkIndicator.Out NetworkIndicator.In
         → ActiveRead.Got (record {
           network_indicator = o;
@@ -206,22 +206,22 @@ module _ (s : List ℕ) (i : ℕ) (room : i ≤ length s) (out : Bool) (m : With
           unique_program_id = v;
           avail_num = get_or s (d.next + 2) 0;
           avails_expected = get_or s (d.next + 3) 0;
-        }) ≡ activeRead (parse (ending out m b) (bits_of s) (i * 8))
+        }) ≡ active_read (parse (ending out m b) (bits_of s) (i * 8))
     unfolding ending
-    an-ending v o there ev byte₂ byte₃ eo =
+    an_ending v o there ev byte₂ byte₃ eo =
         let p : d.next * 8 + 16 ≡ (d.next + 2) * 8 = omega arith in
         let q : d.next * 8 + 16 + 8 ≡ (d.next + 3) * 8 = omega arith in
-        active-got _ _ m.components (d.next * 8 + 16 + 8 + 8) (rw eo (takes-in (breakDuration b) _ _ (bits_of s) (i * 8) _ _ broken ∙ takes-number s (d.next * 8) 16 v _ _ (omega arith) ev
-        ∙ takes-number s (d.next * 8 + 16) 8 _ _ _ (omega arith) (sym (ap (λ (x : ℕ). field (bits_of s) x 8) p ∙ byte-field s (d.next + 2) (omega arith) byte₂))
-        ∙ takes-number s (d.next * 8 + 16 + 8) 8 _ _ _ (omega arith) (sym (ap (λ (x : ℕ). field (bits_of s) x 8) q ∙ byte-field s (d.next + 3) (omega arith) byte₃))))
+        active_got _ _ m.components (d.next * 8 + 16 + 8 + 8) (rw eo (takes_in (break_duration b) _ _ (bits_of s) (i * 8) _ _ broken ∙ takes_number s (d.next * 8) 16 v _ _ (omega arith) ev
+        ∙ takes_number s (d.next * 8 + 16) 8 _ _ _ (omega arith) (sym (ap (λ (x : ℕ). field (bits_of s) x 8) p ∙ byte_field s (d.next + 2) (omega arith) byte₂))
+        ∙ takes_number s (d.next * 8 + 16 + 8) 8 _ _ _ (omega arith) (sym (ap (λ (x : ℕ). field (bits_of s) x 8) q ∙ byte_field s (d.next + 3) (omega arith) byte₃))))
 
 -- ---- what is not cancelled
 module _ (s : List ℕ) (i : ℕ) where
-  pub no-flags : length s ≤ i → ActiveRead.Lacks (record { expected = 0; actual = 0 }) ≡ activeRead (parse active (bits_of s) (i * 8))
+  pub no_flags : length s ≤ i → ActiveRead.Lacks (record { expected = 0; actual = 0 }) ≡ active_read (parse active (bits_of s) (i * 8))
   unfolding active
-  no-flags h =
+  no_flags h =
       let z : (length s * 8 - i * 8) / 8 ≡ 0 = omega arith in
-      active-lacks _ _ (lacks-flag s (i * 8) _ _ (omega arith) ∙ ap (short 0) z)
+      active_lacks _ _ (lacks_flag s (i * 8) _ _ (omega arith) ∙ ap (short 0) z)
 
   -- by the byte f of the flags
   module _ (f : ℕ) (there : i < length s) (is : f ≡ get_or s i 0) (byte : f < 256) where
@@ -230,44 +230,44 @@ module _ (s : List ℕ) (i : ℕ) where
     unfolding active
     flags =
         let p : i * 8 + 1 + 1 + 1 + 1 + 4 ≡ (i + 1) * 8 = omega arith in
-        takes-flag s (i * 8) _ _ _ (omega arith) (ap (λ (x : ℕ). eqb x 1) (sym (first_bit s i f there is byte)))
-        ∙ takes-flag s (i * 8 + 1) _ _ _ (omega arith) (ap (λ (x : ℕ). eqb x 1) (one_bit s i f there is byte 1 6 (i * 8 + 1) refl refl))
-        ∙ takes-flag s (i * 8 + 1 + 1) _ _ _ (omega arith) (ap (λ (x : ℕ). eqb x 1) (one_bit s i f there is byte 2 5 (i * 8 + 1 + 1) (omega arith) refl))
-        ∙ takes-flag s (i * 8 + 1 + 1 + 1) _ _ _ (omega arith) (ap (λ (x : ℕ). eqb x 1) (one_bit s i f there is byte 3 4 (i * 8 + 1 + 1 + 1) (omega arith) refl))
-        ∙ takes-ones s (i * 8 + 1 + 1 + 1 + 1) 4 _ (omega arith)
+        takes_flag s (i * 8) _ _ _ (omega arith) (ap (λ (x : ℕ). eqb x 1) (sym (first_bit s i f there is byte)))
+        ∙ takes_flag s (i * 8 + 1) _ _ _ (omega arith) (ap (λ (x : ℕ). eqb x 1) (one_bit s i f there is byte 1 6 (i * 8 + 1) refl refl))
+        ∙ takes_flag s (i * 8 + 1 + 1) _ _ _ (omega arith) (ap (λ (x : ℕ). eqb x 1) (one_bit s i f there is byte 2 5 (i * 8 + 1 + 1) (omega arith) refl))
+        ∙ takes_flag s (i * 8 + 1 + 1 + 1) _ _ _ (omega arith) (ap (λ (x : ℕ). eqb x 1) (one_bit s i f there is byte 3 4 (i * 8 + 1 + 1 + 1) (omega arith) refl))
+        ∙ takes_ones s (i * 8 + 1 + 1 + 1 + 1) 4 _ (omega arith)
         ∙ ap (λ (x : ℕ). parse (inside (moded (eqb (f / 64 % 2) 1) (eqb (f / 16 % 2) 1)) mode_of (λ m. ending (eqb (f / 128) 1) m (eqb (f / 32 % 2) 1))) (bits_of s) x) p
 
-    pub no_mode : (x : Short) → ModedRead.Lacks x ≡ modedRead (parse (moded (eqb (f / 64 % 2) 1) (eqb (f / 16 % 2) 1)) (bits_of s) ((i + 1) * 8)) → ActiveRead.Lacks x ≡ activeRead (parse active (bits_of s) (i * 8))
-    no_mode x e = active-lacks _ x (flags ∙ lacks-in (moded (eqb (f / 64 % 2) 1) (eqb (f / 16 % 2) 1)) mode_of _ (bits_of s) _ _ _ (lacks-mode _ x e))
+    pub no_mode : (x : Short) → ModedRead.Lacks x ≡ moded_read (parse (moded (eqb (f / 64 % 2) 1) (eqb (f / 16 % 2) 1)) (bits_of s) ((i + 1) * 8)) → ActiveRead.Lacks x ≡ active_read (parse active (bits_of s) (i * 8))
+    no_mode x e = active_lacks _ x (flags ∙ lacks_in (moded (eqb (f / 64 % 2) 1) (eqb (f / 16 % 2) 1)) mode_of _ (bits_of s) _ _ _ (lacks_mode _ x e))
 
-    module _ (m : Moded) (em : ModedRead.Got m ≡ modedRead (parse (moded (eqb (f / 64 % 2) 1) (eqb (f / 16 % 2) 1)) (bits_of s) ((i + 1) * 8))) where
-      mode-there : Modes (parse (moded (eqb (f / 64 % 2) 1) (eqb (f / 16 % 2) 1)) (bits_of s) ((i + 1) * 8)) m
-      mode-there = got-mode _ m (aligned-mode s (eqb (f / 64 % 2) 1) (eqb (f / 16 % 2) 1) ((i + 1) * 8) (begins (i + 1))) em
+    module _ (m : Moded) (em : ModedRead.Got m ≡ moded_read (parse (moded (eqb (f / 64 % 2) 1) (eqb (f / 16 % 2) 1)) (bits_of s) ((i + 1) * 8))) where
+      mode_there : Modes (parse (moded (eqb (f / 64 % 2) 1) (eqb (f / 16 % 2) 1)) (bits_of s) ((i + 1) * 8)) m
+      mode_there = got_mode _ m (aligned_mode s (eqb (f / 64 % 2) 1) (eqb (f / 16 % 2) 1) ((i + 1) * 8) (begins (i + 1))) em
 
-      pub mode-within : m.next ≤ length s
-      mode-within =
-          let h : m.next * 8 ≤ length (bits_of s) = parse-bound (moded (eqb (f / 64 % 2) 1) (eqb (f / 16 % 2) 1)) (bits_of s) ((i + 1) * 8) _ _ (omega (arith, length-bits s)) mode-there.is in
-          omega (arith, h, length-bits s)
+      pub mode_within : m.next ≤ length s
+      mode_within =
+          let h : m.next * 8 ≤ length (bits_of s) = parse_bound (moded (eqb (f / 64 % 2) 1) (eqb (f / 16 % 2) 1)) (bits_of s) ((i + 1) * 8) _ _ (omega (arith, length_bits s)) mode_there.is in
+          omega (arith, h, length_bits s)
 
-      pub an-active : (r : ActiveRead)
-          → ((cs : List InsertComponent) → r ≡ activeRead (parse (ending (eqb (f / 128) 1) (record { value = m.mode; components = cs }) (eqb (f / 32 % 2) 1)) (bits_of s) (m.next * 8)))
-          → r ≡ activeRead (parse active (bits_of s) (i * 8))
-      an-active r er =
-          er mode-there.list ∙ ap activeRead (sym (flags ∙ takes-in (moded (eqb (f / 64 % 2) 1) (eqb (f / 16 % 2) 1)) mode_of _ (bits_of s) _ _ _ mode-there.is))
+      pub an_active : (r : ActiveRead)
+          → ((cs : List InsertComponent) → r ≡ active_read (parse (ending (eqb (f / 128) 1) (record { value = m.mode; components = cs }) (eqb (f / 32 % 2) 1)) (bits_of s) (m.next * 8)))
+          → r ≡ active_read (parse active (bits_of s) (i * 8))
+      an_active r er =
+          er mode_there.list ∙ ap active_read (sym (flags ∙ takes_in (moded (eqb (f / 64 % 2) 1) (eqb (f / 16 % 2) 1)) mode_of _ (bits_of s) _ _ _ mode_there.is))
 
 -- ---- an insert
 module _ (s : List ℕ) where
-  pub no-event : length s < 4 → InsertRead.Lacks (record { expected = 4; actual = length s }) ≡ insertRead (parse insert (bits_of s) 0)
+  pub no_event : length s < 4 → InsertRead.Lacks (record { expected = 4; actual = length s }) ≡ insert_read (parse insert (bits_of s) 0)
   unfolding insert
-  no-event h =
+  no_event h =
       let z : (length s * 8 - 0) / 8 ≡ length s = omega arith in
-      insert-lacks _ _ (lacks-number s 0 32 _ _ (omega arith) ∙ ap (short 4) z)
+      insert_lacks _ _ (lacks_number s 0 32 _ _ (omega arith) ∙ ap (short 4) z)
 
-  pub no-cancel : 4 ≤ length s → length s < 5 → InsertRead.Lacks (record { expected = 0; actual = 0 }) ≡ insertRead (parse insert (bits_of s) 0)
+  pub no_cancel : 4 ≤ length s → length s < 5 → InsertRead.Lacks (record { expected = 0; actual = 0 }) ≡ insert_read (parse insert (bits_of s) 0)
   unfolding insert
-  no-cancel g h =
+  no_cancel g h =
       let z : (length s * 8 - 32) / 8 ≡ 0 = omega arith in
-      insert-lacks _ _ (takes-number s 0 32 _ _ _ (omega arith) refl ∙ lacks-flag s 32 _ _ (omega arith) ∙ ap (short 0) z)
+      insert_lacks _ _ (takes_number s 0 32 _ _ _ (omega arith) refl ∙ lacks_flag s 32 _ _ (omega arith) ∙ ap (short 0) z)
 
   -- by the number v of the event, and the byte after it
   module _ (v : ℕ) (there : 5 ≤ length s) (ev : v ≡ field (bits_of s) 0 32) (byte : get_or s 4 0 < 256) where
@@ -279,28 +279,28 @@ module _ (s : List ℕ) where
     cancel : (c : Bool) → eqb (get_or s 4 0 / 128) 1 ≡ c → eqb (field (bits_of s) 32 1) 1 ≡ c
     cancel c e = ap (λ (x : ℕ). eqb x 1) (sym (first_bit s 4 (get_or s 4 0) (omega arith) refl byte)) ∙ e
 
-    pub a-cancel : 128 ≤ get_or s 4 0
-        → InsertRead.Got (record { splice_event_id = v; reserved = get_or s 4 0 % 128; splice_detail = SpliceDetail.Cancel }) ≡ insertRead (parse insert (bits_of s) 0)
+    pub a_cancel : 128 ≤ get_or s 4 0
+        → InsertRead.Got (record { splice_event_id = v; reserved = get_or s 4 0 % 128; splice_detail = SpliceDetail.Cancel }) ≡ insert_read (parse insert (bits_of s) 0)
     unfolding insert
-    a-cancel on =
+    a_cancel on =
         let z : get_or s 4 0 / 128 ≡ 1 = omega arith in
-        insert-got _ _ [] 40 (takes-number s 0 32 v _ _ (omega arith) ev ∙ takes-flag s 32 true _ _ (omega arith) (cancel true (ap (λ (x : ℕ). eqb x 1) z)) ∙ takes-number s 33 7 _ _ _ (omega arith) kept)
+        insert_got _ _ [] 40 (takes_number s 0 32 v _ _ (omega arith) ev ∙ takes_flag s 32 true _ _ (omega arith) (cancel true (ap (λ (x : ℕ). eqb x 1) z)) ∙ takes_number s 33 7 _ _ _ (omega arith) kept)
 
     module _ (off : get_or s 4 0 < 128) where
-      fronted : parse insert (bits_of s) 0 ≡ parse (inside active activeOf λ a. done (record {
+      fronted : parse insert (bits_of s) 0 ≡ parse (inside active active_of λ a. done (record {
         value = record { splice_event_id = v; reserved = get_or s 4 0 % 128; splice_detail = SpliceDetail.Insert a.value };
         components = a.components;
       })) (bits_of s) 40
       unfolding insert
       fronted =
           let z : get_or s 4 0 / 128 ≡ 0 = omega arith in
-          takes-number s 0 32 v _ _ (omega arith) ev ∙ takes-flag s 32 false _ _ (omega arith) (cancel false (ap (λ (x : ℕ). eqb x 1) z)) ∙ takes-number s 33 7 _ _ _ (omega arith) kept
+          takes_number s 0 32 v _ _ (omega arith) ev ∙ takes_flag s 32 false _ _ (omega arith) (cancel false (ap (λ (x : ℕ). eqb x 1) z)) ∙ takes_number s 33 7 _ _ _ (omega arith) kept
 
-      pub no-active : (x : Short) → ActiveRead.Lacks x ≡ activeRead (parse active (bits_of s) 40) → InsertRead.Lacks x ≡ insertRead (parse insert (bits_of s) 0)
-      no-active x e = insert-lacks _ x (fronted ∙ lacks-in active activeOf _ (bits_of s) _ _ _ (lacks-active _ x e))
+      pub no_active_lem : (x : Short) → ActiveRead.Lacks x ≡ active_read (parse active (bits_of s) 40) → InsertRead.Lacks x ≡ insert_read (parse insert (bits_of s) 0)
+      no_active_lem x e = insert_lacks _ x (fronted ∙ lacks_in active active_of _ (bits_of s) _ _ _ (lacks_active _ x e))
 
-      pub an-insert : (i : InsertDetail) → ActiveRead.Got i ≡ activeRead (parse active (bits_of s) 40)
-          → InsertRead.Got (record { splice_event_id = v; reserved = get_or s 4 0 % 128; splice_detail = SpliceDetail.Insert i }) ≡ insertRead (parse insert (bits_of s) 0)
-      an-insert i e =
-          let g = got-active (parse active (bits_of s) 40) i e in
-          insert-got _ _ g.list g.end (fronted ∙ takes-in active activeOf _ (bits_of s) _ _ _ g.is)
+      pub an_insert : (i : InsertDetail) → ActiveRead.Got i ≡ active_read (parse active (bits_of s) 40)
+          → InsertRead.Got (record { splice_event_id = v; reserved = get_or s 4 0 % 128; splice_detail = SpliceDetail.Insert i }) ≡ insert_read (parse insert (bits_of s) 0)
+      an_insert i e =
+          let g = got_active (parse active (bits_of s) 40) i e in
+          insert_got _ _ g.list g.end (fronted ∙ takes_in active active_of _ (bits_of s) _ _ _ g.is)

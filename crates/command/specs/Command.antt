@@ -1,12 +1,12 @@
 -- The payloads of the commands by their type. 01, "Commands".
 use Rattle.std.specs.Prelude.{ℕ, List, [], map, eqb, length}
-use Rattle.splice_time.specs.Time.{spliceTime}
+use Rattle.splice_time.specs.Time.{splice_time}
 use Rattle.splice_time.specs.declared.SpliceTime.{SpliceTime}
 use Rattle.table.specs.Bits.{pick, bits_of, AllBytes}
-use Rattle.table.specs.Lent.{filledTo}
+use Rattle.table.specs.Lent.{filled_to}
 use Rattle.table.specs.Table.{Table, done, inside, uimsbf, remaining, part, Answer, got, short, parse}
 use Rattle.table.specs.declared.View.{View}
-use Rattle.command.specs.Insert.{WithComponents, insert, insertOf, count, blank}
+use Rattle.command.specs.Insert.{WithComponents, insert, insert_of, count, blank}
 use Rattle.command.specs.declared.CommandRead.{CommandRead}
 use Rattle.command.specs.declared.Private.{Private}
 use Rattle.command.specs.declared.SpliceCommand.{SpliceCommand}
@@ -33,34 +33,34 @@ abbrev pub empty : SpliceCommand → List ℕ → CommandRead
 empty command payload = pick (eqb (length payload) 0) (CommandRead.Is command) CommandRead.Malformed
 
 -- by a command's type: "none of 0x00, 0x05, 0x06, 0x07, 0xFF" is another
-abbrev pub byType {ℓ} : {A : Type ℓ} → ℕ → A → A → A → A → A → A → A
-byType command-type null insert time bandwidth private another =
-    pick (eqb command-type 0x00) null
-    (pick (eqb command-type 0x05) insert
-    (pick (eqb command-type 0x06) time
-    (pick (eqb command-type 0x07) bandwidth
-    (pick (eqb command-type 0xff) private
+abbrev pub by_type {ℓ} : {A : Type ℓ} → ℕ → A → A → A → A → A → A → A
+by_type command_type null insert time bandwidth private another =
+    pick (eqb command_type 0x00) null
+    (pick (eqb command_type 0x05) insert
+    (pick (eqb command_type 0x06) time
+    (pick (eqb command_type 0x07) bandwidth
+    (pick (eqb command_type 0xff) private
     another))))
 
 -- by a command: what is made of each kind
-abbrev pub byCommand : {A : Type 0} → A → (SpliceInsert → A) → (SpliceTime → A) → A → (Private → A) → SpliceCommand → A
-byCommand null insert time bandwidth private SpliceCommand.SpliceNull = null
-byCommand null insert time bandwidth private (SpliceCommand.SpliceInsert i) = insert i
-byCommand null insert time bandwidth private (SpliceCommand.TimeSignal t) = time t
-byCommand null insert time bandwidth private SpliceCommand.BandwidthReservation = bandwidth
-byCommand null insert time bandwidth private (SpliceCommand.PrivateCommand p) = private p
+abbrev pub by_command : {A : Type 0} → A → (SpliceInsert → A) → (SpliceTime → A) → A → (Private → A) → SpliceCommand → A
+by_command null insert time bandwidth private SpliceCommand.SpliceNull = null
+by_command null insert time bandwidth private (SpliceCommand.SpliceInsert i) = insert i
+by_command null insert time bandwidth private (SpliceCommand.TimeSignal t) = time t
+by_command null insert time bandwidth private SpliceCommand.BandwidthReservation = bandwidth
+by_command null insert time bandwidth private (SpliceCommand.PrivateCommand p) = private p
 
 -- the type that a command has
 abbrev pub type_of : SpliceCommand → ℕ
-type_of c = byCommand 0x00 (λ i. 0x05) (λ t. 0x06) 0x07 (λ p. 0xff) c
+type_of c = by_command 0x00 (λ i. 0x05) (λ t. 0x06) 0x07 (λ p. 0xff) c
 
 -- refusal 10: "command type is none of ..", the last; refusal 11: "command payload malformed"
-unfoldable pub commandOf : ℕ → List ℕ → CommandRead
-commandOf command-type payload =
-    byType command-type
+unfoldable pub command_of : ℕ → List ℕ → CommandRead
+command_of command_type payload =
+    by_type command_type
     (empty SpliceCommand.SpliceNull payload)
     (read (λ x. SpliceCommand.SpliceInsert x.value) (parse insert (bits_of payload) 0))
-    (read SpliceCommand.TimeSignal (parse spliceTime (bits_of payload) 0))
+    (read SpliceCommand.TimeSignal (parse splice_time (bits_of payload) 0))
     (empty SpliceCommand.BandwidthReservation payload)
     (read SpliceCommand.PrivateCommand (parse private (bits_of payload) 0))
     CommandRead.UnknownType
@@ -72,39 +72,39 @@ number_of CommandRead.UnknownType = 10
 number_of CommandRead.Malformed = 11
 
 -- ---- f of one kind of command, and `none` of any other
-abbrev pub ofInsert : {A : Type 0} → (SpliceInsert → A) → A → SpliceCommand → A
-ofInsert f none c = byCommand none f (λ t. none) none (λ p. none) c
+abbrev pub of_insert : {A : Type 0} → (SpliceInsert → A) → A → SpliceCommand → A
+of_insert f none c = by_command none f (λ t. none) none (λ p. none) c
 
 -- how many components an insert and a command have
-abbrev pub insertCount : SpliceDetail → ℕ
-insertCount d = count (insertOf d).splice_mode
+abbrev pub insert_count : SpliceDetail → ℕ
+insert_count d = count (insert_of d).splice_mode
 
-abbrev pub countIn : SpliceCommand → ℕ
-countIn c = ofInsert (λ i. insertCount i.splice_detail) 0 c
+abbrev pub count_in : SpliceCommand → ℕ
+count_in c = of_insert (λ i. insert_count i.splice_detail) 0 c
 
-abbrev pub ofPrivate : {A : Type 0} → (Private → A) → A → SpliceCommand → A
-ofPrivate f none c = byCommand none (λ i. none) (λ t. none) none f c
+abbrev pub of_private : {A : Type 0} → (Private → A) → A → SpliceCommand → A
+of_private f none c = by_command none (λ i. none) (λ t. none) none f c
 
 -- the same command with another view, if it has one
-abbrev pub withView : (View → View) → SpliceCommand → SpliceCommand
-withView f c = ofPrivate (λ p. SpliceCommand.PrivateCommand (record { identifier = p.identifier; private_bytes = f p.private_bytes })) c c
+abbrev pub with_view : (View → View) → SpliceCommand → SpliceCommand
+with_view f c = of_private (λ p. SpliceCommand.PrivateCommand (record { identifier = p.identifier; private_bytes = f p.private_bytes })) c c
 
 -- ---- "arrays with a count, 255 components, blank .. past it"
 unfoldable pub array : List InsertComponent → List InsertComponent
-array cs = filledTo 255 blank cs
+array cs = filled_to 255 blank cs
 
 -- each tag is a byte
 abbrev pub Tags : List InsertComponent → Type 0
 Tags cs = AllBytes (map (λ c. c.component_tag) cs)
 
 -- the components of an insert's payload, none where it is malformed
-abbrev pub componentsIn : Answer (WithComponents SpliceInsert) → List InsertComponent
-componentsIn (got x at) = x.components
-componentsIn (short expected actual) = []
+abbrev pub components_in : Answer (WithComponents SpliceInsert) → List InsertComponent
+components_in (got x at) = x.components
+components_in (short expected actual) = []
 
-unfoldable pub componentsOf : List ℕ → List InsertComponent
-componentsOf payload = array (componentsIn (parse insert (bits_of payload) 0))
+unfoldable pub components_of : List ℕ → List InsertComponent
+components_of payload = array (components_in (parse insert (bits_of payload) 0))
 
 -- an insert's payload as it is read, or its refusal, and the components beside it
 unfoldable pub listed_of : List ℕ → ListedCommand
-listed_of payload = record { read = commandOf 0x05 payload; components = componentsOf payload }
+listed_of payload = record { read = command_of 0x05 payload; components = components_of payload }

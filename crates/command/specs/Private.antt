@@ -1,8 +1,8 @@
--- What the private readers of an insert answer, and `insertRead`, which `read_insert` answers. No other public contract cites this.
+-- What the private readers of an insert answer, and `insert_read`, which `read_insert` answers. No other public contract cites this.
 use Rattle.std.specs.Prelude.{ℕ, ◌/◌, List, [], ◌≡◌}
 use Rattle.table.specs.Table.{Answer, got, short}
 use Rattle.std.proofs.lemmas.List.Edits.{sets}
-use Rattle.command.specs.Command.{array, countIn}
+use Rattle.command.specs.Command.{array, count_in}
 use Rattle.command.specs.Insert.{WithComponents}
 use Rattle.command.specs.declared.CommandRead.{CommandRead}
 use Rattle.command.specs.declared.components.InsertComponent.{InsertComponent}
@@ -15,30 +15,30 @@ use Rattle.command.specs.declared.insert.InsertRead.{InsertRead}
 use Rattle.command.specs.declared.insert.ModedRead.{ModedRead}
 use Rattle.command.specs.declared.insert.SpliceMode.{SpliceMode}
 
-unfoldable pub componentRead : Answer InsertComponent → ComponentRead
-componentRead (got c at) = ComponentRead.Got (record { component = c; next = at / 8 })
-componentRead (short expected actual) = ComponentRead.Lacks (record { expected = expected; actual = actual })
+unfoldable pub component_read : Answer InsertComponent → ComponentRead
+component_read (got c at) = ComponentRead.Got (record { component = c; next = at / 8 })
+component_read (short expected actual) = ComponentRead.Lacks (record { expected = expected; actual = actual })
 
-unfoldable pub skimmedOf : Answer (List InsertComponent) → Skimmed
-skimmedOf (got cs at) = Skimmed.Got (at / 8)
-skimmedOf (short expected actual) = Skimmed.Lacks (record { expected = expected; actual = actual })
+unfoldable pub skimmed_of : Answer (List InsertComponent) → Skimmed
+skimmed_of (got cs at) = Skimmed.Got (at / 8)
+skimmed_of (short expected actual) = Skimmed.Lacks (record { expected = expected; actual = actual })
 
-unfoldable pub modedRead : Answer (WithComponents SpliceMode) → ModedRead
-modedRead (got m at) = ModedRead.Got (record { mode = m.value; next = at / 8 })
-modedRead (short expected actual) = ModedRead.Lacks (record { expected = expected; actual = actual })
+unfoldable pub moded_read : Answer (WithComponents SpliceMode) → ModedRead
+moded_read (got m at) = ModedRead.Got (record { mode = m.value; next = at / 8 })
+moded_read (short expected actual) = ModedRead.Lacks (record { expected = expected; actual = actual })
 
-unfoldable pub activeRead : Answer (WithComponents InsertDetail) → ActiveRead
-activeRead (got i at) = ActiveRead.Got i.value
-activeRead (short expected actual) = ActiveRead.Lacks (record { expected = expected; actual = actual })
+unfoldable pub active_read : Answer (WithComponents InsertDetail) → ActiveRead
+active_read (got i at) = ActiveRead.Got i.value
+active_read (short expected actual) = ActiveRead.Lacks (record { expected = expected; actual = actual })
 
-unfoldable pub insertRead : Answer (WithComponents SpliceInsert) → InsertRead
-insertRead (got i at) = InsertRead.Got i.value
-insertRead (short expected actual) = InsertRead.Lacks (record { expected = expected; actual = actual })
+unfoldable pub insert_read : Answer (WithComponents SpliceInsert) → InsertRead
+insert_read (got i at) = InsertRead.Got i.value
+insert_read (short expected actual) = InsertRead.Lacks (record { expected = expected; actual = actual })
 
 -- the list that was read, none where it was not
-abbrev pub listIn : Answer (List InsertComponent) → List InsertComponent
-listIn (got cs at) = cs
-listIn (short expected actual) = []
+abbrev pub list_in : Answer (List InsertComponent) → List InsertComponent
+list_in (got cs at) = cs
+list_in (short expected actual) = []
 
 -- components stored in an array from place i on; blank all of it where they are not read
 unfoldable pub filled : List InsertComponent → ℕ → Answer (List InsertComponent) → List InsertComponent
@@ -47,10 +47,10 @@ filled places i (short expected actual) = array []
 
 -- a type whose command is not read at once: neither a null's nor a time signal's
 abbrev pub Apart : ℕ → Type 0
-Apart command-type = (command-type ≡ 0x00 → ⊥) × (command-type ≡ 0x06 → ⊥)
+Apart command_type = (command_type ≡ 0x00 → ⊥) × (command_type ≡ 0x06 → ⊥)
 
 -- how many components a reading says that there are: none where it has no insert
-abbrev pub countRead : CommandRead → ℕ
-countRead (CommandRead.Is c) = countIn c
-countRead CommandRead.UnknownType = 0
-countRead CommandRead.Malformed = 0
+abbrev pub count_read : CommandRead → ℕ
+count_read (CommandRead.Is c) = count_in c
+count_read CommandRead.UnknownType = 0
+count_read CommandRead.Malformed = 0

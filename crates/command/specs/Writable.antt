@@ -14,5 +14,5 @@ alike b (c ∷ cs) = pick b (immediate c.splice_time) (not (immediate c.splice_t
 abbrev pub unmixed : List InsertComponent → Bool
 unmixed cs = alike (immediate (get_or cs 0 blank).splice_time) cs
 
-unfoldable pub writableInsert : WithComponents SpliceInsert → Bool
-writableInsert x = eqb x.value.reserved 127 && unmixed x.components
+unfoldable pub writable_insert : WithComponents SpliceInsert → Bool
+writable_insert x = eqb x.value.reserved 127 && unmixed x.components

@@ -1,8 +1,8 @@
 // The components of a splice_insert(): skimmed on the way to what follows them, and read on demand.
 ghost use Rattle.std.specs.Prelude.{◌≡◌, [], ◌*◌, ◌≤◌};
 ghost use Rattle.command.specs.Insert.{blank, component};
-ghost use Rattle.command.specs.Command.{array, componentsOf, listed_of};
-ghost use Rattle.command.specs.Private.{componentRead, skimmedOf, listIn, countRead};
+ghost use Rattle.command.specs.Command.{array, components_of, listed_of};
+ghost use Rattle.command.specs.Private.{component_read, skimmed_of, list_in, count_read};
 ghost use Rattle.table.specs.Bits.{bits_of};
 ghost use Rattle.table.specs.Table.{list, parse};
 
@@ -49,7 +49,7 @@ pub enum Skimmed {
 }
 
 pub(crate) fn read_component(s: &[u8], at: usize, immediate: bool) -> ComponentRead
-    ensures { result ≡ componentRead (parse (component immediate) (bits_of s.now) (at * 8)) }
+    ensures { result ≡ component_read (parse (component immediate) (bits_of s.now) (at * 8)) }
 {
     if s.len() <= at {
         return ComponentRead::Lacks(Short {
@@ -76,7 +76,7 @@ pub(crate) fn read_component(s: &[u8], at: usize, immediate: bool) -> ComponentR
 
 // Past `count` components, each of which is there.
 pub(crate) fn skim(s: &[u8], first: usize, count: usize, immediate: bool) -> Skimmed
-    ensures { result ≡ skimmedOf (parse (list count blank (component immediate)) (bits_of s.now) (first * 8)) }
+    ensures { result ≡ skimmed_of (parse (list count blank (component immediate)) (bits_of s.now) (first * 8)) }
 {
     let mut at = first;
     let mut ahead = count;
@@ -105,7 +105,7 @@ pub fn blanks() -> [InsertComponent; MAX_COMPONENTS]
 // `count` components in their array, blank past them.
 fn fill(s: &[u8], first: usize, count: usize, immediate: bool) -> [InsertComponent; MAX_COMPONENTS]
     requires { count ≤ 255 }
-    ensures { result ≡ array (listIn (parse (list count blank (component immediate)) (bits_of s.now) (first * 8))) }
+    ensures { result ≡ array (list_in (parse (list count blank (component immediate)) (bits_of s.now) (first * 8))) }
 {
     let mut out = blanks();
     let mut at = first;
@@ -126,7 +126,7 @@ fn fill(s: &[u8], first: usize, count: usize, immediate: bool) -> [InsertCompone
 
 // How many components a command says that it has.
 fn count_of(read: CommandRead) -> u8
-    ensures { result ≡ countRead read }
+    ensures { result ≡ count_read read }
 {
     let command = match read {
         CommandRead::Is(c) => c,
@@ -154,7 +154,7 @@ fn count_of(read: CommandRead) -> u8
 
 // The components of an insert's payload, blank past their count; none where the payload is malformed.
 fn list_components(payload: &[u8]) -> [InsertComponent; MAX_COMPONENTS]
-    ensures { result ≡ componentsOf payload.now }
+    ensures { result ≡ components_of payload.now }
 {
     let count = count_of(read_other(5, payload));
     fill(payload, 7, count as usize, bits(payload, 5, 3, 1) == 1)

@@ -1,8 +1,8 @@
 // splice_insert(), without its components: their count stands in the mode.
 ghost use Rattle.std.specs.Prelude.{◌≡◌, List, ◌*◌, ◌≤◌, length};
-ghost use Rattle.command.specs.Insert.{timeUnless, moded, ending, active, insert};
-ghost use Rattle.command.specs.Private.{modedRead, activeRead, insertRead};
-ghost use Rattle.splice_time.specs.Time.{timeRead};
+ghost use Rattle.command.specs.Insert.{time_unless, moded, ending, active, insert};
+ghost use Rattle.command.specs.Private.{moded_read, active_read, insert_read};
+ghost use Rattle.splice_time.specs.Time.{time_read};
 ghost use Rattle.command.specs.declared.components.InsertComponent.{InsertComponent};
 ghost use Rattle.names.specs.declared.flags.NetworkIndicator.{NetworkIndicator};
 ghost use Rattle.table.specs.Bits.{pick, bits_of};
@@ -81,7 +81,7 @@ fn indicator(out: bool) -> NetworkIndicator
 
 // A splice_time() unless the splice is immediate, from a byte on.
 pub(crate) fn read_time_unless(payload: &[u8], at: usize, immediate: bool) -> TimeRead
-    ensures { result ≡ timeRead (parse (timeUnless immediate) (bits_of payload.now) (at * 8)) }
+    ensures { result ≡ time_read (parse (time_unless immediate) (bits_of payload.now) (at * 8)) }
 {
     if immediate {
         return TimeRead::Got(Timed {
@@ -93,7 +93,7 @@ pub(crate) fn read_time_unless(payload: &[u8], at: usize, immediate: bool) -> Ti
 }
 
 fn read_mode(payload: &[u8], at: usize, program: bool, immediate: bool) -> ModedRead
-    ensures { result ≡ modedRead (parse (moded program immediate) (bits_of payload.now) (at * 8)) }
+    ensures { result ≡ moded_read (parse (moded program immediate) (bits_of payload.now) (at * 8)) }
 {
     if program {
         return match read_time_unless(payload, at, immediate) {
@@ -127,7 +127,7 @@ fn read_mode(payload: &[u8], at: usize, program: bool, immediate: bool) -> Moded
 // From the duration on. The answer is the same whichever components stand beside the mode.
 fn read_ending(payload: &[u8], at: usize, out: bool, mode: SpliceMode, flagged: bool) -> ActiveRead
     requires { at ≤ length payload.now }
-    ensures { (cs : List InsertComponent) → result ≡ activeRead (parse (ending out (record { value = mode; components = cs }) flagged) (bits_of payload.now) (at * 8)) }
+    ensures { (cs : List InsertComponent) → result ≡ active_read (parse (ending out (record { value = mode; components = cs }) flagged) (bits_of payload.now) (at * 8)) }
 {
     let broken = match read_break(payload, at, flagged) {
         BreakRead::Got(b) => b,
@@ -160,7 +160,7 @@ fn read_ending(payload: &[u8], at: usize, out: bool, mode: SpliceMode, flagged: 
 
 // What is not cancelled, from a byte on.
 fn read_active(payload: &[u8], at: usize) -> ActiveRead
-    ensures { result ≡ activeRead (parse active (bits_of payload.now) (at * 8)) }
+    ensures { result ≡ active_read (parse active (bits_of payload.now) (at * 8)) }
 {
     if payload.len() <= at {
         return ActiveRead::Lacks(Short {
@@ -182,7 +182,7 @@ fn read_active(payload: &[u8], at: usize) -> ActiveRead
 
 // The insert of a payload.
 pub fn read_insert(payload: &[u8]) -> InsertRead
-    ensures { result ≡ insertRead (parse insert (bits_of payload.now) 0) }
+    ensures { result ≡ insert_read (parse insert (bits_of payload.now) 0) }
 {
     if payload.len() < 4 {
         return InsertRead::Lacks(Short {

@@ -1,10 +1,10 @@
 // The splice commands: what a section asks for.
 ghost use Rattle.std.specs.Prelude.{◌≡◌};
-ghost use Rattle.command.specs.Command.{private, read, empty, commandOf, number_of};
+ghost use Rattle.command.specs.Command.{private, read, empty, command_of, number_of};
 ghost use Rattle.command.specs.Insert.{insert};
 ghost use Rattle.command.specs.Private.{Apart};
 ghost use Rattle.command.specs.declared.SpliceCommand.{SpliceCommand};
-ghost use Rattle.splice_time.specs.Time.{spliceTime};
+ghost use Rattle.splice_time.specs.Time.{splice_time};
 ghost use Rattle.table.specs.Bits.{bits_of};
 ghost use Rattle.table.specs.Table.{parse};
 
@@ -62,7 +62,7 @@ fn read_empty(payload: &[u8], command: SpliceCommand) -> CommandRead
 }
 
 fn read_time_signal(payload: &[u8]) -> CommandRead
-    ensures { result ≡ read SpliceCommand.TimeSignal (parse spliceTime (bits_of payload.now) 0) }
+    ensures { result ≡ read SpliceCommand.TimeSignal (parse splice_time (bits_of payload.now) 0) }
 {
     match read_aligned_time(payload, 0) {
         TimeRead::Got(t) => {
@@ -101,7 +101,7 @@ fn read_splice_insert(payload: &[u8]) -> CommandRead
 // The command of a type other than the two that `read_command` reads itself. It is long, and not only `read_apart` calls it: so the compiler leaves it a call.
 pub(crate) fn read_other(command_type: u8, payload: &[u8]) -> CommandRead
     requires { Apart command_type }
-    ensures { result ≡ commandOf command_type payload.now }
+    ensures { result ≡ command_of command_type payload.now }
 {
     // A return in each arm: answers that meet behind a match are copied there.
     match command_type {
@@ -115,14 +115,14 @@ pub(crate) fn read_other(command_type: u8, payload: &[u8]) -> CommandRead
 // What `read_other` reads, with an answer of its own: one that it is handed stays in memory as a whole, and `read_command`'s is taken apart.
 fn read_apart(command_type: u8, payload: &[u8]) -> CommandRead
     requires { Apart command_type }
-    ensures { result ≡ commandOf command_type payload.now }
+    ensures { result ≡ command_of command_type payload.now }
 {
     read_other(command_type, payload)
 }
 
 // The command of a type, in its payload. It is short, so that the compiler puts it in place of its calls.
 pub fn read_command(command_type: u8, payload: &[u8]) -> CommandRead
-    ensures { result ≡ commandOf command_type payload.now }
+    ensures { result ≡ command_of command_type payload.now }
 {
     match command_type {
         0x00 => return read_empty(payload, SpliceCommand::SpliceNull),

@@ -7,55 +7,55 @@ use native.Mathlib.Omega.{arith}
 use lib.Dec.{ltb, eqb}
 use lib.ListN.{length, get_or}
 use borrow.Author.Tests.{ne_eqb, lt-ltb, not-true, not-false}
-use Rattle.command.specs.Insert.{WithComponents, timeUnless, component, blank, moded, ending, active, insert, mode_of, activeOf}
-use Rattle.splice_time.specs.Break.{breakDuration, autoReturn, breakTicks}
+use Rattle.command.specs.Insert.{WithComponents, time_unless, component, blank, moded, ending, active, insert, mode_of, active_of}
+use Rattle.splice_time.specs.Break.{break_duration, auto_return, break_ticks}
 use Rattle.command.specs.declared.components.InsertComponent.{InsertComponent}
 use Rattle.splice_time.specs.declared.break_duration.Break.{Break}
 use Rattle.command.specs.declared.insert.InsertDetail.{InsertDetail}
 use Rattle.command.specs.declared.insert.SpliceMode.{SpliceMode}
-use Rattle.splice_time.specs.Time.{spliceTime}
+use Rattle.splice_time.specs.Time.{splice_time}
 use Rattle.splice_time.specs.declared.SpliceTime.TheVariants.{Immediate}
 use Rattle.table.specs.Bits.{pick, bits_of, field}
 use Rattle.table.specs.Table.{Table, inside, ones, list}
-use Rattle.table.proofs.Fields.{field_in, byte-field}
+use Rattle.table.proofs.Fields.{field_in, byte_field}
 use Rattle.command_canonical.specs.Private.{Stands, Fails, Told}
 use Rattle.command_canonical.specs.declared.Form.{Form}
-use Rattle.command_canonical.proofs.Times.{first_bit, last-seven, stands-six, fails-six, lacks-six}
-use Rattle.command_canonical.proofs.Walks.{stands-done, stands-number, fails-number, lacks-number, stands-flag, fails-flag, lacks-flag, stands-ones, fails-one, fails-ones, stands-must, fails-must, fails-past, stands-in, fails-in, fails-after, stands-list, fails-first, fails-list, stands_at, fails-at}
+use Rattle.command_canonical.proofs.Times.{first_bit, last_seven, stands_six, fails_six, lacks_six}
+use Rattle.command_canonical.proofs.Walks.{stands_done, stands_number, fails_number, lacks_number, stands_flag, fails_flag, lacks_flag, stands_ones, fails_one, fails_ones, stands_must, fails_must, fails_past, stands_in, fails_in, fails_after, stands_list, fails_first, fails_list, stands_at, fails_at}
 
 -- ---- a splice_time unless immediate
 module _ (s : List ℕ) (i : ℕ) where
-  pub at_once : (b : Bool) → b ≡ true → Stands (timeUnless b) s (i * 8) (i * 8)
-  unfolding timeUnless
-  at_once b e = rw e (stands-done s (i * 8) Immediate _ refl)
+  pub at_once : (b : Bool) → b ≡ true → Stands (time_unless b) s (i * 8) (i * 8)
+  unfolding time_unless
+  at_once b e = rw e (stands_done s (i * 8) Immediate _ refl)
 
-  pub at-a-time : (b : Bool) (r : Form) → b ≡ false → Told spliceTime s i r → Told (timeUnless b) s i r
-  unfolding timeUnless
-  at-a-time b r e h = rw e h
+  pub at_a_time : (b : Bool) (r : Form) → b ≡ false → Told splice_time s i r → Told (time_unless b) s i r
+  unfolding time_unless
+  at_a_time b r e h = rw e h
 
 -- ---- components
 module _ (s : List ℕ) (i : ℕ) (b : Bool) where
-  pub no-tag : length s ≤ i → Fails (component b) s (i * 8)
+  pub no_tag : length s ≤ i → Fails (component b) s (i * 8)
   unfolding component
-  no-tag h = lacks-number s (i * 8) 8 _ _ (omega arith)
+  no_tag h = lacks_number s (i * 8) 8 _ _ (omega arith)
 
-  pub no-component : Fails (timeUnless b) s ((i + 1) * 8) → Fails (component b) s (i * 8)
+  pub no_component : Fails (time_unless b) s ((i + 1) * 8) → Fails (component b) s (i * 8)
   unfolding component
-  no-component f = fails-number s (i * 8) 8 _ _ (field (bits_of s) (i * 8) 8) refl (fails-in (timeUnless b) _ _ s (i * 8 + 8) (fails-at (timeUnless b) s _ _ (omega arith) f))
+  no_component f = fails_number s (i * 8) 8 _ _ (field (bits_of s) (i * 8) 8) refl (fails_in (time_unless b) _ _ s (i * 8 + 8) (fails_at (time_unless b) s _ _ (omega arith) f))
 
-  pub a-component : (m : ℕ) → i < length s → Stands (timeUnless b) s ((i + 1) * 8) m → Stands (component b) s (i * 8) m
+  pub a_component : (m : ℕ) → i < length s → Stands (time_unless b) s ((i + 1) * 8) m → Stands (component b) s (i * 8) m
   unfolding component
-  a-component m h a =
-      stands-number s (i * 8) 8 _ _ (field (bits_of s) (i * 8) 8) m (omega arith) refl
-      (stands-in (timeUnless b) _ _ s (i * 8 + 8) m (stands_at (timeUnless b) s _ _ m (omega arith) a) m (stands-done s m _ m refl))
+  a_component m h a =
+      stands_number s (i * 8) 8 _ _ (field (bits_of s) (i * 8) 8) m (omega arith) refl
+      (stands_in (time_unless b) _ _ s (i * 8 + 8) m (stands_at (time_unless b) s _ _ m (omega arith) a) m (stands_done s m _ m refl))
 
 -- what stands ahead, from byte j on, says what the whole says, from byte i on
 pub record Ahead (s : List ℕ) (b : Bool) (count i ahead j : ℕ) : Type 0 where
   pub stands : (m : ℕ) → Stands (list ahead blank (component b)) s (j * 8) m → Stands (list count blank (component b)) s (i * 8) m
   pub fails : Fails (list ahead blank (component b)) s (j * 8) → Fails (list count blank (component b)) s (i * 8)
 
-pub all-ahead : (s : List ℕ) (b : Bool) (count i : ℕ) → Ahead s b count i count i
-all-ahead s b count i = record { stands = λ m a. a; fails = λ f. f }
+pub all_ahead : (s : List ℕ) (b : Bool) (count i : ℕ) → Ahead s b count i count i
+all_ahead s b count i = record { stands = λ m a. a; fails = λ f. f }
 
 pub one_more : (s : List ℕ) (b : Bool) (count i n j : ℕ) → 0 < n → Ahead s b count i n j → Ahead s b count i (suc (n - 1)) j
 one_more s b count i n j l h =
@@ -64,46 +64,46 @@ one_more s b count i n j l h =
 
 module _ (s : List ℕ) (b : Bool) (count i n j : ℕ) (h : Ahead s b count i (suc n) j) where
   pub stops : Fails (component b) s (j * 8) → Fails (list count blank (component b)) s (i * 8)
-  stops f = h.fails (fails-first n blank (component b) s (j * 8) f)
+  stops f = h.fails (fails_first n blank (component b) s (j * 8) f)
 
-  pub goes_on : (e : ℕ) → Stands (component b) s (j * 8) (e * 8) → Ahead s b count i n e
-  goes_on e a = record {
-    stands = λ m c. h.stands m (stands-list n blank (component b) s (j * 8) (e * 8) a m c);
-    fails = λ f. h.fails (fails-list n blank (component b) s (j * 8) (e * 8) a f);
+  pub goes_on_lem : (e : ℕ) → Stands (component b) s (j * 8) (e * 8) → Ahead s b count i n e
+  goes_on_lem e a = record {
+    stands = λ m c. h.stands m (stands_list n blank (component b) s (j * 8) (e * 8) a m c);
+    fails = λ f. h.fails (fails_list n blank (component b) s (j * 8) (e * 8) a f);
   }
 
 pub none_ahead : (s : List ℕ) (b : Bool) (count i n j : ℕ) → Ahead s b count i n j → n ≤ 0 → Stands (list count blank (component b)) s (i * 8) (j * 8)
 unfolding list
 none_ahead s b count i n j h z =
     let e : n ≡ 0 = omega arith in
-    h.stands (j * 8) (rw e (stands-done s (j * 8) [] _ refl))
+    h.stands (j * 8) (rw e (stands_done s (j * 8) [] _ refl))
 
 -- ---- the mode
 module _ (s : List ℕ) (i : ℕ) (p b : Bool) where
-  pub by-program : (r : Form) → p ≡ true → Told (timeUnless b) s i r → Told (moded p b) s i r
+  pub by_program_lem : (r : Form) → p ≡ true → Told (time_unless b) s i r → Told (moded p b) s i r
   unfolding moded
-  by-program (Form.Ends e) on a = rw on (stands-in (timeUnless b) _ _ s (i * 8) (e * 8) a (e * 8) (stands-done s (e * 8) _ _ refl))
-  by-program Form.Other on f = rw on (fails-in (timeUnless b) _ _ s (i * 8) f)
+  by_program_lem (Form.Ends e) on a = rw on (stands_in (time_unless b) _ _ s (i * 8) (e * 8) a (e * 8) (stands_done s (e * 8) _ _ refl))
+  by_program_lem Form.Other on f = rw on (fails_in (time_unless b) _ _ s (i * 8) f)
 
   module _ (off : p ≡ false) where
-    pub no-count : length s ≤ i → Fails (moded p b) s (i * 8)
+    pub no_count : length s ≤ i → Fails (moded p b) s (i * 8)
     unfolding moded
-    no-count h = rw off (lacks-number s (i * 8) 8 _ _ (omega arith))
+    no_count h = rw off (lacks_number s (i * 8) 8 _ _ (omega arith))
 
     module _ (there : i < length s) (byte : get_or s i 0 < 256) where
       counted : get_or s i 0 ≡ field (bits_of s) (i * 8) 8
-      counted = sym (byte-field s i there byte)
+      counted = sym (byte_field s i there byte)
 
-      pub immediate-none : get_or s i 0 ≡ 0 → b ≡ true → Fails (moded p b) s (i * 8)
+      pub immediate_none : get_or s i 0 ≡ 0 → b ≡ true → Fails (moded p b) s (i * 8)
       unfolding moded
-      immediate-none z e = rw (off, e) (fails-number s (i * 8) 8 _ _ 0 (sym z ∙ counted) (fails-must s (i * 8 + 8) false _ refl))
+      immediate_none z e = rw (off, e) (fails_number s (i * 8) 8 _ _ 0 (sym z ∙ counted) (fails_must s (i * 8 + 8) false _ refl))
 
-      pub timed-none : get_or s i 0 ≡ 0 → b ≡ false → Stands (moded p b) s (i * 8) ((i + 1) * 8)
+      pub timed_none : get_or s i 0 ≡ 0 → b ≡ false → Stands (moded p b) s (i * 8) ((i + 1) * 8)
       unfolding moded list
-      timed-none z e =
+      timed_none z e =
           rw (off, e)
-          (stands-number s (i * 8) 8 _ _ 0 _ (omega arith) (sym z ∙ counted)
-          (stands-must s (i * 8 + 8) true _ _ refl (stands-done s (i * 8 + 8) _ _ (omega arith))))
+          (stands_number s (i * 8) 8 _ _ 0 _ (omega arith) (sym z ∙ counted)
+          (stands_must s (i * 8 + 8) true _ _ refl (stands_done s (i * 8 + 8) _ _ (omega arith))))
 
       asked : (b : Bool) → 0 < get_or s i 0 → pick b (ltb 0 (get_or s i 0)) true ≡ true
       asked true h = lt-ltb 0 (get_or s i 0) h
@@ -112,69 +112,69 @@ module _ (s : List ℕ) (i : ℕ) (p b : Bool) where
       abbrev listed : Table (List InsertComponent)
       listed = list (get_or s i 0) blank (component b)
 
-      pub by-components : (r : Form) → 0 < get_or s i 0 → Told listed s (i + 1) r → Told (moded p b) s i r
+      pub by_components : (r : Form) → 0 < get_or s i 0 → Told listed s (i + 1) r → Told (moded p b) s i r
       unfolding moded
-      by-components (Form.Ends e) h a =
+      by_components (Form.Ends e) h a =
           rw off
-          (stands-number s (i * 8) 8 _ _ (get_or s i 0) _ (omega arith) counted
-          (stands-must s (i * 8 + 8) _ _ _ (asked b h)
-          (stands-in listed _ _ s (i * 8 + 8) (e * 8) (stands_at listed s (i * 8 + 8) ((i + 1) * 8) (e * 8) (omega arith) a) (e * 8) (stands-done s (e * 8) _ _ refl))))
-      by-components Form.Other h f =
+          (stands_number s (i * 8) 8 _ _ (get_or s i 0) _ (omega arith) counted
+          (stands_must s (i * 8 + 8) _ _ _ (asked b h)
+          (stands_in listed _ _ s (i * 8 + 8) (e * 8) (stands_at listed s (i * 8 + 8) ((i + 1) * 8) (e * 8) (omega arith) a) (e * 8) (stands_done s (e * 8) _ _ refl))))
+      by_components Form.Other h f =
           rw off
-          (fails-number s (i * 8) 8 _ _ (get_or s i 0) counted
-          (fails-past s (i * 8 + 8) _ _ (fails-in listed _ _ s (i * 8 + 8) (fails-at listed s (i * 8 + 8) ((i + 1) * 8) (omega arith) f))))
+          (fails_number s (i * 8) 8 _ _ (get_or s i 0) counted
+          (fails_past s (i * 8 + 8) _ _ (fails_in listed _ _ s (i * 8 + 8) (fails_at listed s (i * 8 + 8) ((i + 1) * 8) (omega arith) f))))
 
 -- ---- the duration
 module _ (s : List ℕ) (i : ℕ) (b : Bool) where
-  pub no-break : not b ≡ true → Stands (breakDuration b) s (i * 8) (i * 8)
-  unfolding breakDuration
-  no-break e = rw (not-true b e) (stands-done s (i * 8) Break.Absent _ refl)
+  pub no_break : not b ≡ true → Stands (break_duration b) s (i * 8) (i * 8)
+  unfolding break_duration
+  no_break e = rw (not-true b e) (stands_done s (i * 8) Break.Absent _ refl)
 
   module _ (on : not b ≡ false) where
-    pub lacks-break : length s ≤ i → Fails (breakDuration b) s (i * 8)
-    unfolding breakDuration
-    lacks-break h = rw (not-false b on) (lacks-flag s (i * 8) _ _ (omega arith))
+    pub lacks_break : length s ≤ i → Fails (break_duration b) s (i * 8)
+    unfolding break_duration
+    lacks_break h = rw (not-false b on) (lacks_flag s (i * 8) _ _ (omega arith))
 
     module _ (there : i < length s) (byte : get_or s i 0 < 256) where
-      pub break-reserved : (get_or s i 0 / 2 % 64 ≡ 63 → ⊥) → Fails (breakDuration b) s (i * 8)
-      unfolding breakDuration
-      break-reserved h = rw (not-false b on) (fails-flag s (i * 8) autoReturn _ _ refl (fails-six s i there byte breakTicks _ h))
+      pub break_reserved : (get_or s i 0 / 2 % 64 ≡ 63 → ⊥) → Fails (break_duration b) s (i * 8)
+      unfolding break_duration
+      break_reserved h = rw (not-false b on) (fails_flag s (i * 8) auto_return _ _ refl (fails_six s i there byte break_ticks _ h))
 
-      pub no-duration : length s < i + 5 → Fails (breakDuration b) s (i * 8)
-      unfolding breakDuration
-      no-duration l = rw (not-false b on) (fails-flag s (i * 8) autoReturn _ _ refl (lacks-six s i there byte breakTicks _ l))
+      pub no_duration : length s < i + 5 → Fails (break_duration b) s (i * 8)
+      unfolding break_duration
+      no_duration l = rw (not-false b on) (fails_flag s (i * 8) auto_return _ _ refl (lacks_six s i there byte break_ticks _ l))
 
-      pub a-break : get_or s i 0 / 2 % 64 ≡ 63 → i + 5 ≤ length s → Stands (breakDuration b) s (i * 8) ((i + 5) * 8)
-      unfolding breakDuration
-      a-break h l = rw (not-false b on) (stands-flag s (i * 8) autoReturn _ _ _ (omega arith) refl (stands-six s i there byte breakTicks _ h l))
+      pub a_break : get_or s i 0 / 2 % 64 ≡ 63 → i + 5 ≤ length s → Stands (break_duration b) s (i * 8) ((i + 5) * 8)
+      unfolding break_duration
+      a_break h l = rw (not-false b on) (stands_flag s (i * 8) auto_return _ _ _ (omega arith) refl (stands_six s i there byte break_ticks _ h l))
 
 -- ---- from the duration on
 module _ (s : List ℕ) (i e : ℕ) (out b : Bool) (m : WithComponents SpliceMode) where
-  pub no-ending : Fails (breakDuration b) s (i * 8) → Fails (ending out m b) s (i * 8)
+  pub no_ending : Fails (break_duration b) s (i * 8) → Fails (ending out m b) s (i * 8)
   unfolding ending
-  no-ending f = fails-in (breakDuration b) _ _ s (i * 8) f
+  no_ending f = fails_in (break_duration b) _ _ s (i * 8) f
 
-  module _ (d : Stands (breakDuration b) s (i * 8) (e * 8)) where
-    pub lacks-ending : length s < e + 4 → Fails (ending out m b) s (i * 8)
+  module _ (d : Stands (break_duration b) s (i * 8) (e * 8)) where
+    pub lacks_ending : length s < e + 4 → Fails (ending out m b) s (i * 8)
     unfolding ending
-    lacks-ending l =
-        fails-after (breakDuration b) _ _ s (i * 8) (e * 8) d
-        (fails-number s (e * 8) 16 _ _ (field (bits_of s) (e * 8) 16) refl
-        (fails-number s (e * 8 + 16) 8 _ _ (field (bits_of s) (e * 8 + 16) 8) refl (lacks-number s (e * 8 + 16 + 8) 8 _ _ (omega arith))))
+    lacks_ending l =
+        fails_after (break_duration b) _ _ s (i * 8) (e * 8) d
+        (fails_number s (e * 8) 16 _ _ (field (bits_of s) (e * 8) 16) refl
+        (fails_number s (e * 8 + 16) 8 _ _ (field (bits_of s) (e * 8 + 16) 8) refl (lacks_number s (e * 8 + 16 + 8) 8 _ _ (omega arith))))
 
-    pub an-ending : e + 4 ≤ length s → Stands (ending out m b) s (i * 8) ((e + 4) * 8)
+    pub an_ending : e + 4 ≤ length s → Stands (ending out m b) s (i * 8) ((e + 4) * 8)
     unfolding ending
-    an-ending l =
-        stands-in (breakDuration b) _ _ s (i * 8) (e * 8) d _
-        (stands-number s (e * 8) 16 _ _ (field (bits_of s) (e * 8) 16) _ (omega arith) refl
-        (stands-number s (e * 8 + 16) 8 _ _ (field (bits_of s) (e * 8 + 16) 8) _ (omega arith) refl
-        (stands-number s (e * 8 + 16 + 8) 8 _ _ (field (bits_of s) (e * 8 + 16 + 8) 8) _ (omega arith) refl (stands-done s (e * 8 + 16 + 8 + 8) _ _ (omega arith)))))
+    an_ending l =
+        stands_in (break_duration b) _ _ s (i * 8) (e * 8) d _
+        (stands_number s (e * 8) 16 _ _ (field (bits_of s) (e * 8) 16) _ (omega arith) refl
+        (stands_number s (e * 8 + 16) 8 _ _ (field (bits_of s) (e * 8 + 16) 8) _ (omega arith) refl
+        (stands_number s (e * 8 + 16 + 8) 8 _ _ (field (bits_of s) (e * 8 + 16 + 8) 8) _ (omega arith) refl (stands_done s (e * 8 + 16 + 8 + 8) _ _ (omega arith)))))
 
 -- ---- what is not cancelled: the flags are byte 5
 module _ (s : List ℕ) where
-  pub no-flags : length s ≤ 5 → Fails active s 40
+  pub no_flags : length s ≤ 5 → Fails active s 40
   unfolding active
-  no-flags h = lacks-flag s 40 _ _ (omega arith)
+  no_flags h = lacks_flag s 40 _ _ (omega arith)
 
   module _ (there : 5 < length s) (byte : get_or s 5 0 < 256) where
     abbrev out : Bool
@@ -193,81 +193,81 @@ module _ (s : List ℕ) where
     abbrev after : Table (WithComponents InsertDetail)
     after = inside (moded program immediate) mode_of λ mode. ending out mode lasting
 
-    is-bit : (j k : ℕ) → j + 1 + k ≡ 8 → eqb (field (bits_of s) (40 + j) 1) 1 ≡ eqb (get_or s 5 0 / 2 ^ k % 2) 1
-    is-bit j k e = ap (λ (x : ℕ). eqb x 1) (field_in s 5 there byte j 1 k e)
+    is_bit : (j k : ℕ) → j + 1 + k ≡ 8 → eqb (field (bits_of s) (40 + j) 1) 1 ≡ eqb (get_or s 5 0 / 2 ^ k % 2) 1
+    is_bit j k e = ap (λ (x : ℕ). eqb x 1) (field_in s 5 there byte j 1 k e)
 
-    last-four : field (bits_of s) 44 4 ≡ get_or s 5 0 % 16
-    last-four = field_in s 5 there byte 4 4 0 refl ∙ (let z : get_or s 5 0 / 1 % 16 ≡ get_or s 5 0 % 16 = omega arith in z)
+    last_four : field (bits_of s) 44 4 ≡ get_or s 5 0 % 16
+    last_four = field_in s 5 there byte 4 4 0 refl ∙ (let z : get_or s 5 0 / 1 % 16 ≡ get_or s 5 0 % 16 = omega arith in z)
 
-    fails-flags : Fails (ones 4 after) s 44 → Fails active s 40
+    fails_flags : Fails (ones 4 after) s 44 → Fails active s 40
     unfolding active
-    fails-flags f =
-        fails-flag s 40 _ _ out refl
-        (fails-flag s 41 _ _ program (is-bit 1 6 refl) (fails-flag s 42 _ _ lasting (is-bit 2 5 refl) (fails-flag s 43 _ _ immediate (is-bit 3 4 refl) f)))
+    fails_flags f =
+        fails_flag s 40 _ _ out refl
+        (fails_flag s 41 _ _ program (is_bit 1 6 refl) (fails_flag s 42 _ _ lasting (is_bit 2 5 refl) (fails_flag s 43 _ _ immediate (is_bit 3 4 refl) f)))
 
-    pub flags-reserved : (get_or s 5 0 % 16 ≡ 15 → ⊥) → Fails active s 40
-    flags-reserved h = fails-flags (fails-one s 44 4 _ (λ e. h (sym last-four ∙ e)))
+    pub flags_reserved : (get_or s 5 0 % 16 ≡ 15 → ⊥) → Fails active s 40
+    flags_reserved h = fails_flags (fails_one s 44 4 _ (λ e. h (sym last_four ∙ e)))
 
     pub no_mode : Fails (moded program immediate) s 48 → Fails active s 40
-    no_mode f = fails-flags (fails-ones s 44 4 _ (fails-in (moded program immediate) _ _ s 48 f))
+    no_mode f = fails_flags (fails_ones s 44 4 _ (fails_in (moded program immediate) _ _ s 48 f))
 
     module _ (i : ℕ) (m : Stands (moded program immediate) s 48 (i * 8)) where
-      pub no-active : Fails (breakDuration lasting) s (i * 8) → Fails active s 40
-      no-active f = fails-flags (fails-ones s 44 4 _ (fails-after (moded program immediate) _ _ s 48 (i * 8) m (no-ending s i i out lasting m.reading f)))
+      pub no_active_lem : Fails (break_duration lasting) s (i * 8) → Fails active s 40
+      no_active_lem f = fails_flags (fails_ones s 44 4 _ (fails_after (moded program immediate) _ _ s 48 (i * 8) m (no_ending s i i out lasting m.reading f)))
 
-      module _ (e : ℕ) (d : Stands (breakDuration lasting) s (i * 8) (e * 8)) where
-        pub lacks-active : length s < e + 4 → Fails active s 40
-        lacks-active l = fails-flags (fails-ones s 44 4 _ (fails-after (moded program immediate) _ _ s 48 (i * 8) m (lacks-ending s i e out lasting m.reading d l)))
+      module _ (e : ℕ) (d : Stands (break_duration lasting) s (i * 8) (e * 8)) where
+        pub lacks_active : length s < e + 4 → Fails active s 40
+        lacks_active l = fails_flags (fails_ones s 44 4 _ (fails_after (moded program immediate) _ _ s 48 (i * 8) m (lacks_ending s i e out lasting m.reading d l)))
 
-        pub an-active : get_or s 5 0 % 16 ≡ 15 → e + 4 ≤ length s → Stands active s 40 ((e + 4) * 8)
+        pub an_active : get_or s 5 0 % 16 ≡ 15 → e + 4 ≤ length s → Stands active s 40 ((e + 4) * 8)
         unfolding active
-        an-active h l =
-            stands-flag s 40 _ _ out _ (omega arith) refl
-            (stands-flag s 41 _ _ program _ (omega arith) (is-bit 1 6 refl)
-            (stands-flag s 42 _ _ lasting _ (omega arith) (is-bit 2 5 refl)
-            (stands-flag s 43 _ _ immediate _ (omega arith) (is-bit 3 4 refl)
-            (stands-ones s 44 4 _ _ (omega arith) (last-four ∙ h)
-            (stands-in (moded program immediate) _ _ s 48 (i * 8) m _ (an-ending s i e out lasting m.reading d l))))))
+        an_active h l =
+            stands_flag s 40 _ _ out _ (omega arith) refl
+            (stands_flag s 41 _ _ program _ (omega arith) (is_bit 1 6 refl)
+            (stands_flag s 42 _ _ lasting _ (omega arith) (is_bit 2 5 refl)
+            (stands_flag s 43 _ _ immediate _ (omega arith) (is_bit 3 4 refl)
+            (stands_ones s 44 4 _ _ (omega arith) (last_four ∙ h)
+            (stands_in (moded program immediate) _ _ s 48 (i * 8) m _ (an_ending s i e out lasting m.reading d l))))))
 
 -- ---- an insert: the cancel flag and the reserved bits are byte 4
 module _ (s : List ℕ) where
-  pub no-cancel : length s < 5 → Fails insert s 0
+  pub no_cancel : length s < 5 → Fails insert s 0
   unfolding insert
-  no-cancel h = fails-number s 0 32 _ _ _ refl (fails-flag s 32 _ _ _ refl (lacks-number s 33 7 _ _ (omega arith)))
+  no_cancel h = fails_number s 0 32 _ _ _ refl (fails_flag s 32 _ _ _ refl (lacks_number s 33 7 _ _ (omega arith)))
 
   module _ (there : 4 < length s) (byte : get_or s 4 0 < 256) where
-    is-cancel : (b : Bool) → eqb (get_or s 4 0 / 128 % 2) 1 ≡ b → eqb (field (bits_of s) 32 1) 1 ≡ b
-    is-cancel b e = ap (λ (x : ℕ). eqb x 1) (first_bit s 4 there byte) ∙ e
+    is_cancel : (b : Bool) → eqb (get_or s 4 0 / 128 % 2) 1 ≡ b → eqb (field (bits_of s) 32 1) 1 ≡ b
+    is_cancel b e = ap (λ (x : ℕ). eqb x 1) (first_bit s 4 there byte) ∙ e
 
     kept : (v : ℕ) → v ≡ get_or s 4 0 % 128 → v ≡ field (bits_of s) 33 7
-    kept v e = e ∙ sym (last-seven s 4 there byte)
+    kept v e = e ∙ sym (last_seven s 4 there byte)
 
-    pub insert-reserved : (get_or s 4 0 ≡ 0xff → ⊥) → (get_or s 4 0 ≡ 0x7f → ⊥) → Fails insert s 0
+    pub insert_reserved : (get_or s 4 0 ≡ 0xff → ⊥) → (get_or s 4 0 ≡ 0x7f → ⊥) → Fails insert s 0
     unfolding insert
-    insert-reserved h g =
-        fails-number s 0 32 _ _ _ refl
-        (fails-flag s 32 _ _ _ refl
-        (fails-number s 33 7 _ _ (get_or s 4 0 % 128) (kept _ refl)
-        (fails-must s 40 _ _ (ne_eqb (get_or s 4 0 % 128) 127 (λ e. omega arith)))))
+    insert_reserved h g =
+        fails_number s 0 32 _ _ _ refl
+        (fails_flag s 32 _ _ _ refl
+        (fails_number s 33 7 _ _ (get_or s 4 0 % 128) (kept _ refl)
+        (fails_must s 40 _ _ (ne_eqb (get_or s 4 0 % 128) 127 (λ e. omega arith)))))
 
-    pub a-cancel : get_or s 4 0 ≡ 0xff → Stands insert s 0 40
+    pub a_cancel : get_or s 4 0 ≡ 0xff → Stands insert s 0 40
     unfolding insert
-    a-cancel e =
+    a_cancel e =
         let z : get_or s 4 0 / 128 % 2 ≡ 1 = omega arith in
-        stands-number s 0 32 _ _ _ _ (omega arith) refl
-        (stands-flag s 32 _ _ true _ (omega arith) (is-cancel true (ap (λ (x : ℕ). eqb x 1) z))
-        (stands-number s 33 7 _ _ 127 _ (omega arith) (kept 127 (omega arith)) (stands-must s 40 true _ _ refl (stands-done s 40 _ _ refl))))
+        stands_number s 0 32 _ _ _ _ (omega arith) refl
+        (stands_flag s 32 _ _ true _ (omega arith) (is_cancel true (ap (λ (x : ℕ). eqb x 1) z))
+        (stands_number s 33 7 _ _ 127 _ (omega arith) (kept 127 (omega arith)) (stands_must s 40 true _ _ refl (stands_done s 40 _ _ refl))))
 
-    pub an-insert : (r : Form) → get_or s 4 0 ≡ 0x7f → Told active s 5 r → Told insert s 0 r
+    pub an_insert : (r : Form) → get_or s 4 0 ≡ 0x7f → Told active s 5 r → Told insert s 0 r
     unfolding insert
-    an-insert (Form.Ends n) e a =
+    an_insert (Form.Ends n) e a =
         let z : get_or s 4 0 / 128 % 2 ≡ 0 = omega arith in
-        stands-number s 0 32 _ _ _ _ (omega arith) refl
-        (stands-flag s 32 _ _ false _ (omega arith) (is-cancel false (ap (λ (x : ℕ). eqb x 1) z))
-        (stands-number s 33 7 _ _ 127 _ (omega arith) (kept 127 (omega arith))
-        (stands-must s 40 true _ _ refl (stands-in active activeOf _ s 40 (n * 8) a _ (stands-done s (n * 8) _ _ refl)))))
-    an-insert Form.Other e f =
+        stands_number s 0 32 _ _ _ _ (omega arith) refl
+        (stands_flag s 32 _ _ false _ (omega arith) (is_cancel false (ap (λ (x : ℕ). eqb x 1) z))
+        (stands_number s 33 7 _ _ 127 _ (omega arith) (kept 127 (omega arith))
+        (stands_must s 40 true _ _ refl (stands_in active active_of _ s 40 (n * 8) a _ (stands_done s (n * 8) _ _ refl)))))
+    an_insert Form.Other e f =
         let z : get_or s 4 0 / 128 % 2 ≡ 0 = omega arith in
-        fails-number s 0 32 _ _ _ refl
-        (fails-flag s 32 _ _ false (is-cancel false (ap (λ (x : ℕ). eqb x 1) z))
-        (fails-number s 33 7 _ _ 127 (kept 127 (omega arith)) (fails-past s 40 true _ (fails-in active activeOf _ s 40 f))))
+        fails_number s 0 32 _ _ _ refl
+        (fails_flag s 32 _ _ false (is_cancel false (ap (λ (x : ℕ). eqb x 1) z))
+        (fails_number s 33 7 _ _ 127 (kept 127 (omega arith)) (fails_past s 40 true _ (fails_in active active_of _ s 40 f))))

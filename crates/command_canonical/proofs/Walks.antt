@@ -12,141 +12,141 @@ use lib.Dec.{eqb}
 use lib.ListN.{length, get_or, drop}
 use borrow.Author.Tests.{eq-eqb, ne_eqb, eqb-true, eqb-false}
 use Rattle.table.specs.Bits.{bits_of, field}
-use Rattle.table.specs.Table.{Table, done, must, inside, number, bit, reserved, list, uimsbf, flag, ones, Answer, got, short, parse, canonical, takesAll, canonicalBy}
-use Rattle.table.proofs.Steps.{takes-number, takes-flag, takes-ones, reads-number, reads-flag, reads-ones, takes-in, reads_in, Reads, canonical-inside}
+use Rattle.table.specs.Table.{Table, done, must, inside, number, bit, reserved, list, uimsbf, flag, ones, Answer, got, short, parse, canonical, takes_all, canonical_by}
+use Rattle.table.proofs.Steps.{takes_number, takes_flag, takes_ones, reads_number, reads_flag, reads_ones, takes_in, reads_in, Reads, canonical_inside}
 use Rattle.command_canonical.specs.Private.{Stands, Fails, Told, exact}
 use Rattle.command_canonical.specs.declared.Form.{Form}
 
 module _ {X : Type 0} (s : List ℕ) (at : ℕ) where
-  pub stands-done : (y : X) (m : ℕ) → at ≡ m → Stands (done y) s at m
-  stands-done y m e = record { reading = y; reads = ap (got y) e; form = refl }
+  pub stands_done : (y : X) (m : ℕ) → at ≡ m → Stands (done y) s at m
+  stands_done y m e = record { reading = y; reads = ap (got y) e; form = refl }
 
   -- ---- a number
   module _ (w : ℕ) (p : X → ℕ) (k : ℕ → Table X) where
-    pub stands-number : (v m : ℕ) → at + w ≤ length s * 8 → v ≡ field (bits_of s) at w → Stands (k v) s (at + w) m → Stands (uimsbf w p k) s at m
+    pub stands_number : (v m : ℕ) → at + w ≤ length s * 8 → v ≡ field (bits_of s) at w → Stands (k v) s (at + w) m → Stands (uimsbf w p k) s at m
     unfolding number
-    stands-number v m h e a = record {
+    stands_number v m h e a = record {
       reading = a.reading;
-      reads = takes-number s at w v p k h e ∙ a.reads;
+      reads = takes_number s at w v p k h e ∙ a.reads;
       form = ap (λ (u : ℕ). canonical (k u) (bits_of s) (at + w)) (sym e) ∙ a.form;
     }
 
-    pub fails-number : (v : ℕ) → v ≡ field (bits_of s) at w → Fails (k v) s (at + w) → Fails (uimsbf w p k) s at
+    pub fails_number : (v : ℕ) → v ≡ field (bits_of s) at w → Fails (k v) s (at + w) → Fails (uimsbf w p k) s at
     unfolding number
-    fails-number v e f = record {
+    fails_number v e f = record {
       other = λ x m g.
           ap (λ (u : ℕ). canonical (k u) (bits_of s) (at + w)) (sym e)
-          ∙ f.other x m (ap (λ (u : ℕ). parse (k u) (bits_of s) (at + w)) e ∙ (reads-number s at w p k x m g).1);
+          ∙ f.other x m (ap (λ (u : ℕ). parse (k u) (bits_of s) (at + w)) e ∙ (reads_number s at w p k x m g).1);
     }
 
-    pub lacks-number : length s * 8 < at + w → Fails (uimsbf w p k) s at
-    lacks-number h = record { other = λ x m g. absurd (omega (arith, (reads-number s at w p k x m g).0)) }
+    pub lacks_number : length s * 8 < at + w → Fails (uimsbf w p k) s at
+    lacks_number h = record { other = λ x m g. absurd (omega (arith, (reads_number s at w p k x m g).0)) }
 
   -- ---- a flag
   module _ (p : X → Bool) (k : Bool → Table X) where
-    pub stands-flag : (b : Bool) (m : ℕ) → at + 1 ≤ length s * 8 → eqb (field (bits_of s) at 1) 1 ≡ b → Stands (k b) s (at + 1) m → Stands (flag p k) s at m
+    pub stands_flag : (b : Bool) (m : ℕ) → at + 1 ≤ length s * 8 → eqb (field (bits_of s) at 1) 1 ≡ b → Stands (k b) s (at + 1) m → Stands (flag p k) s at m
     unfolding bit
-    stands-flag b m h e a = record {
+    stands_flag b m h e a = record {
       reading = a.reading;
-      reads = takes-flag s at b p k h e ∙ a.reads;
+      reads = takes_flag s at b p k h e ∙ a.reads;
       form = ap (λ (u : Bool). canonical (k u) (bits_of s) (at + 1)) e ∙ a.form;
     }
 
-    pub fails-flag : (b : Bool) → eqb (field (bits_of s) at 1) 1 ≡ b → Fails (k b) s (at + 1) → Fails (flag p k) s at
+    pub fails_flag : (b : Bool) → eqb (field (bits_of s) at 1) 1 ≡ b → Fails (k b) s (at + 1) → Fails (flag p k) s at
     unfolding bit
-    fails-flag b e f = record {
+    fails_flag b e f = record {
       other = λ x m g.
           ap (λ (u : Bool). canonical (k u) (bits_of s) (at + 1)) e
-          ∙ f.other x m (ap (λ (u : Bool). parse (k u) (bits_of s) (at + 1)) (sym e) ∙ (reads-flag s at p k x m g).1);
+          ∙ f.other x m (ap (λ (u : Bool). parse (k u) (bits_of s) (at + 1)) (sym e) ∙ (reads_flag s at p k x m g).1);
     }
 
-    pub lacks-flag : length s * 8 < at + 1 → Fails (flag p k) s at
-    lacks-flag h = record { other = λ x m g. absurd (omega (arith, (reads-flag s at p k x m g).0)) }
+    pub lacks_flag : length s * 8 < at + 1 → Fails (flag p k) s at
+    lacks_flag h = record { other = λ x m g. absurd (omega (arith, (reads_flag s at p k x m g).0)) }
 
   -- ---- reserved bits
   module _ (w : ℕ) (t : Table X) where
-    pub stands-ones : (m : ℕ) → at + w ≤ length s * 8 → field (bits_of s) at w ≡ 2 ^ w - 1 → Stands t s (at + w) m → Stands (ones w t) s at m
+    pub stands_ones : (m : ℕ) → at + w ≤ length s * 8 → field (bits_of s) at w ≡ 2 ^ w - 1 → Stands t s (at + w) m → Stands (ones w t) s at m
     unfolding reserved
-    stands-ones m h e a = record {
+    stands_ones m h e a = record {
       reading = a.reading;
-      reads = takes-ones s at w t h ∙ a.reads;
+      reads = takes_ones s at w t h ∙ a.reads;
       form = rw (eq-eqb (field (bits_of s) at w) (2 ^ w - 1) e) a.form;
     }
 
     -- one of them is 0
-    pub fails-one : (field (bits_of s) at w ≡ 2 ^ w - 1 → ⊥) → Fails (ones w t) s at
+    pub fails_one : (field (bits_of s) at w ≡ 2 ^ w - 1 → ⊥) → Fails (ones w t) s at
     unfolding reserved
-    fails-one h = record { other = λ x m g. rw (ne_eqb (field (bits_of s) at w) (2 ^ w - 1) h) }
+    fails_one h = record { other = λ x m g. rw (ne_eqb (field (bits_of s) at w) (2 ^ w - 1) h) }
 
-    pub fails-ones : Fails t s (at + w) → Fails (ones w t) s at
+    pub fails_ones : Fails t s (at + w) → Fails (ones w t) s at
     unfolding reserved
-    fails-ones f = record { other = λ x m g. rw (f.other x m (reads-ones s at w t x m g).1) (and-false (eqb (field (bits_of s) at w) (2 ^ w - 1))) }
+    fails_ones f = record { other = λ x m g. rw (f.other x m (reads_ones s at w t x m g).1) (and-false (eqb (field (bits_of s) at w) (2 ^ w - 1))) }
 
   -- ---- what the canonical form asks besides
   module _ (b : Bool) (t : Table X) where
-    pub stands-must : (m : ℕ) → b ≡ true → Stands t s at m → Stands (must b t) s at m
-    stands-must m e a = record { reading = a.reading; reads = a.reads; form = rw e a.form }
+    pub stands_must : (m : ℕ) → b ≡ true → Stands t s at m → Stands (must b t) s at m
+    stands_must m e a = record { reading = a.reading; reads = a.reads; form = rw e a.form }
 
-    pub fails-must : b ≡ false → Fails (must b t) s at
-    fails-must e = record { other = λ x m g. rw e }
+    pub fails_must : b ≡ false → Fails (must b t) s at
+    fails_must e = record { other = λ x m g. rw e }
 
-    pub fails-past : Fails t s at → Fails (must b t) s at
-    fails-past f = record { other = λ x m g. rw (f.other x m g) (and-false b) }
+    pub fails_past : Fails t s at → Fails (must b t) s at
+    fails_past f = record { other = λ x m g. rw (f.other x m g) (and-false b) }
 
 -- ---- a table inside another
 module _ {X Y : Type 0} (t : Table Y) (q : X → Y) (k : Y → Table X) (s : List ℕ) (at : ℕ) where
-  pub fails-in : Fails t s at → Fails (inside t q k) s at
-  fails-in f = record {
+  pub fails_in : Fails t s at → Fails (inside t q k) s at
+  fails_in f = record {
     other = λ x m g.
         let r = reads_in t q k (bits_of s) at x m g in
-        canonical-inside t q k (bits_of s) at r.inner r.seam r.front ∙ rw (f.other r.inner r.seam r.front);
+        canonical_inside t q k (bits_of s) at r.inner r.seam r.front ∙ rw (f.other r.inner r.seam r.front);
   }
 
   module _ (n : ℕ) (a : Stands t s at n) where
-    pub stands-in : (m : ℕ) → Stands (k a.reading) s n m → Stands (inside t q k) s at m
-    stands-in m b = record {
+    pub stands_in : (m : ℕ) → Stands (k a.reading) s n m → Stands (inside t q k) s at m
+    stands_in m b = record {
       reading = b.reading;
-      reads = takes-in t q k (bits_of s) at a.reading n a.reads ∙ b.reads;
-      form = canonical-inside t q k (bits_of s) at a.reading n a.reads ∙ rw a.form b.form;
+      reads = takes_in t q k (bits_of s) at a.reading n a.reads ∙ b.reads;
+      form = canonical_inside t q k (bits_of s) at a.reading n a.reads ∙ rw a.form b.form;
     }
 
-    pub fails-after : Fails (k a.reading) s n → Fails (inside t q k) s at
-    fails-after f = record {
+    pub fails_after : Fails (k a.reading) s n → Fails (inside t q k) s at
+    fails_after f = record {
       other = λ x m g.
-          canonical-inside t q k (bits_of s) at a.reading n a.reads
-          ∙ ap (λ (c : Bool). canonical t (bits_of s) at && c) (f.other x m (sym (takes-in t q k (bits_of s) at a.reading n a.reads) ∙ g))
+          canonical_inside t q k (bits_of s) at a.reading n a.reads
+          ∙ ap (λ (c : Bool). canonical t (bits_of s) at && c) (f.other x m (sym (takes_in t q k (bits_of s) at a.reading n a.reads) ∙ g))
           ∙ and-false (canonical t (bits_of s) at);
     }
 
 -- ---- a list, element by element
 module _ {Y : Type 0} (n : ℕ) (d : Y) (t : Table Y) (s : List ℕ) (at : ℕ) where
-  pub fails-first : Fails t s at → Fails (list (suc n) d t) s at
+  pub fails_first : Fails t s at → Fails (list (suc n) d t) s at
   unfolding list
-  fails-first f = fails-in t (λ ys. get_or ys 0 d) _ s at f
+  fails_first f = fails_in t (λ ys. get_or ys 0 d) _ s at f
 
   module _ (i : ℕ) (a : Stands t s at i) where
-    pub stands-list : (m : ℕ) → Stands (list n d t) s i m → Stands (list (suc n) d t) s at m
+    pub stands_list : (m : ℕ) → Stands (list n d t) s i m → Stands (list (suc n) d t) s at m
     unfolding list
-    stands-list m b = stands-in t (λ ys. get_or ys 0 d) _ s at i a m (stands-in (list n d t) (drop 1) _ s i m b m (stands-done s m _ m refl))
+    stands_list m b = stands_in t (λ ys. get_or ys 0 d) _ s at i a m (stands_in (list n d t) (drop 1) _ s i m b m (stands_done s m _ m refl))
 
-    pub fails-list : Fails (list n d t) s i → Fails (list (suc n) d t) s at
+    pub fails_list : Fails (list n d t) s i → Fails (list (suc n) d t) s at
     unfolding list
-    fails-list f = fails-after t (λ ys. get_or ys 0 d) _ s at i a (fails-in (list n d t) (drop 1) _ s i f)
+    fails_list f = fails_after t (λ ys. get_or ys 0 d) _ s at i a (fails_in (list n d t) (drop 1) _ s i f)
 
 -- ---- the same from and to another bit that is the same
 pub stands_at : {X : Type 0} (t : Table X) (s : List ℕ) (a b m : ℕ) → a ≡ b → Stands t s b m → Stands t s a m
 stands_at t s a b m e h = rw e h
 
-pub fails-at : {X : Type 0} (t : Table X) (s : List ℕ) (a b : ℕ) → a ≡ b → Fails t s b → Fails t s a
-fails-at t s a b e f = rw e f
+pub fails_at : {X : Type 0} (t : Table X) (s : List ℕ) (a b : ℕ) → a ≡ b → Fails t s b → Fails t s a
+fails_at t s a b e f = rw e f
 
 -- ---- what a walk answers, case by case
 module _ {X : Type 0} (t : Table X) (s : List ℕ) (at : ℕ) (r : Form) where
-  pub told-ends : (n : ℕ) → Told t s at r → r ≡ Form.Ends n → Stands t s (at * 8) (n * 8)
-  told-ends n h e = rw e at h
+  pub told_ends : (n : ℕ) → Told t s at r → r ≡ Form.Ends n → Stands t s (at * 8) (n * 8)
+  told_ends n h e = rw e at h
 
-  pub told-other : Told t s at r → r ≡ Form.Other → Fails t s (at * 8)
-  told-other h e = rw e at h
+  pub told_other : Told t s at r → r ≡ Form.Other → Fails t s (at * 8)
+  told_other h e = rw e at h
 
 -- ---- the whole payload
 same_byte : (l n : ℕ) → eqb l n ≡ eqb (n * 8) (l * 8)
@@ -157,19 +157,19 @@ same_byte l n = go (eqb l n) refl
     go false e = sym (ne_eqb (n * 8) (l * 8) (λ z. eqb-false l n e (omega arith)))
 
 module _ {X : Type 0} (t : Table X) (s : List ℕ) where
-  pub by-table : (n : ℕ) → Stands t s 0 (n * 8) → eqb (length s) n ≡ canonicalBy t s
-  unfolding canonicalBy
-  by-table n a = rw (a.reads, a.form) (same_byte (length s) n ∙ sym (and-true (eqb (n * 8) (length s * 8))))
+  pub by_table : (n : ℕ) → Stands t s 0 (n * 8) → eqb (length s) n ≡ canonical_by t s
+  unfolding canonical_by
+  by_table n a = rw (a.reads, a.form) (same_byte (length s) n ∙ sym (and-true (eqb (n * 8) (length s * 8))))
 
-  pub not-by-table : Fails t s 0 → false ≡ canonicalBy t s
-  unfolding canonicalBy
-  not-by-table f = go (parse t (bits_of s) 0) refl
+  pub not_by_table : Fails t s 0 → false ≡ canonical_by t s
+  unfolding canonical_by
+  not_by_table f = go (parse t (bits_of s) 0) refl
     where
-      go : (r : Answer X) → parse t (bits_of s) 0 ≡ r → false ≡ takesAll r s && canonical t (bits_of s) 0
+      go : (r : Answer X) → parse t (bits_of s) 0 ≡ r → false ≡ takes_all r s && canonical t (bits_of s) 0
       go (got x m) e = rw (f.other x m e) (sym (and-false (eqb m (length s * 8))))
       go (short a b) e = refl
 
   -- what a walk from the first byte on says of the whole
-  pub exact-is : (r : Form) → Told t s 0 r → exact r (length s) ≡ canonicalBy t s
-  exact-is (Form.Ends n) a = by-table n a
-  exact-is Form.Other f = not-by-table f
+  pub exact_is : (r : Form) → Told t s 0 r → exact r (length s) ≡ canonical_by t s
+  exact_is (Form.Ends n) a = by_table n a
+  exact_is Form.Other f = not_by_table f

@@ -1,11 +1,11 @@
 // Whether a command's payload is canonical: by byte positions, as the tables have their fields.
 ghost use Rattle.std.specs.Prelude.{◌≡◌, length};
-ghost use Rattle.canonical_form.specs.Command.{canonicalCommand};
+ghost use Rattle.canonical_form.specs.Command.{canonical_command};
 ghost use Rattle.command_canonical.specs.Private.{Told, exact};
-ghost use Rattle.command.specs.Insert.{timeUnless, component, blank, moded, active, insert};
-ghost use Rattle.splice_time.specs.Break.{breakDuration};
-ghost use Rattle.splice_time.specs.Time.{spliceTime};
-ghost use Rattle.table.specs.Table.{list, canonicalBy};
+ghost use Rattle.command.specs.Insert.{time_unless, component, blank, moded, active, insert};
+ghost use Rattle.splice_time.specs.Break.{break_duration};
+ghost use Rattle.splice_time.specs.Time.{splice_time};
+ghost use Rattle.table.specs.Table.{list, canonical_by};
 
 // What a walk along a table's fields answers: the byte after them, or that they are not all there in their canonical form.
 #[derive(Drop)]
@@ -28,7 +28,7 @@ fn is_exact(s: &[u8], form: Form) -> bool
 
 // Its flag and reserved bits are one byte: 0x7F where no time follows, 0xFE or 0xFF where one does.
 fn pass_time(s: &[u8], at: usize) -> Form
-    ensures { Told spliceTime s.now at result }
+    ensures { Told splice_time s.now at result }
 {
     if s.len() <= at {
         return Form::Other;
@@ -46,7 +46,7 @@ fn pass_time(s: &[u8], at: usize) -> Form
 }
 
 fn is_canonical_time(s: &[u8]) -> bool
-    ensures { result ≡ canonicalBy spliceTime s.now }
+    ensures { result ≡ canonical_by splice_time s.now }
 {
     is_exact(s, pass_time(s, 0))
 }
@@ -55,7 +55,7 @@ fn is_canonical_time(s: &[u8]) -> bool
 
 // A splice_time() unless the splice is immediate.
 fn pass_time_unless(s: &[u8], at: usize, immediate: bool) -> Form
-    ensures { Told (timeUnless immediate) s.now at result }
+    ensures { Told (time_unless immediate) s.now at result }
 {
     if immediate {
         return Form::Ends(at);
@@ -105,7 +105,7 @@ fn pass_mode(s: &[u8], at: usize, program: bool, immediate: bool) -> Form
 
 // A break_duration() if it is flagged: auto return, six reserved bits, and 33 more.
 fn pass_break(s: &[u8], at: usize, flagged: bool) -> Form
-    ensures { Told (breakDuration flagged) s.now at result }
+    ensures { Told (break_duration flagged) s.now at result }
 {
     if !flagged {
         return Form::Ends(at);
@@ -152,7 +152,7 @@ fn pass_active(s: &[u8]) -> Form
 
 // The cancel flag and the seven reserved bits are byte 4.
 fn is_canonical_insert(s: &[u8]) -> bool
-    ensures { result ≡ canonicalBy insert s.now }
+    ensures { result ≡ canonical_by insert s.now }
 {
     if s.len() < 5 {
         return false;
@@ -170,7 +170,7 @@ fn is_canonical_insert(s: &[u8]) -> bool
 
 // Is the payload of a command of this type canonical?
 pub fn is_canonical_command(command_type: u8, payload: &[u8]) -> bool
-    ensures { result ≡ canonicalCommand command_type payload.now }
+    ensures { result ≡ canonical_command command_type payload.now }
 {
     match command_type {
         0x00 => payload.len() == 0,

@@ -1,8 +1,8 @@
 -- What a writer asks of an insert's components in one pass. No public contract cites this.
 use Rattle.std.specs.Prelude.{ℕ, ◌+◌, ◌*◌, ◌^◌, Bool, true, not, ◌&&◌, List, [], ◌∷◌, ltb, eqb}
 use Rattle.command.specs.Insert as insert
-use Rattle.splice_time.specs.Break.{breakTicks}
-use Rattle.command.specs.Insert.{immediate, programTime}
+use Rattle.splice_time.specs.Break.{break_ticks}
+use Rattle.command.specs.Insert.{immediate, program_time}
 use Rattle.command.specs.declared.components.InsertComponent.{InsertComponent}
 use Rattle.splice_time.specs.declared.break_duration.Break.{Break}
 use Rattle.command.specs.declared.insert.SpliceMode.{SpliceMode}
@@ -13,15 +13,15 @@ use Rattle.command_measure.specs.declared.measure.Survey.{Survey}
 use Rattle.command_measure.specs.declared.Measured.{Measured}
 
 -- the bytes of a time, none where the insert is immediate
-abbrev pub timeBytes : Bool → SpliceTime → ℕ
-timeBytes b t = pick b 0 (pick (specified t) 5 1)
+abbrev pub time_bytes : Bool → SpliceTime → ℕ
+time_bytes b t = pick b 0 (pick (specified t) 5 1)
 
 -- with one component more before them: whether the times fit their fields, whether all are immediate or all timed as b says, and how many bytes they take
 unfoldable pub adding : Bool → SpliceTime → Survey → Survey
 adding b t s = record {
   fits = ltb (ticks t) (2 ^ 33) && s.fits;
   alike = pick b (immediate t) (not (immediate t)) && s.alike;
-  bytes = 1 + timeBytes b t + s.bytes;
+  bytes = 1 + time_bytes b t + s.bytes;
 }
 
 unfoldable pub surveyed : Bool → List InsertComponent → Survey
@@ -29,17 +29,17 @@ surveyed b [] = record { fits = true; alike = true; bytes = 0 }
 surveyed b (c ∷ cs) = adding b c.splice_time (surveyed b cs)
 
 -- of components that are all blank, as many as the mode says: their times are unspecified
-unfoldable pub blanksOf : SpliceMode → Survey
-blanksOf k = record { fits = true; alike = true; bytes = insert.count k * 2 }
+unfoldable pub blanks_of : SpliceMode → Survey
+blanks_of k = record { fits = true; alike = true; bytes = insert.count k * 2 }
 
 -- ---- of a whole insert, what its components' survey says being s
-abbrev pub modeBytes : SpliceMode → ℕ → ℕ
-modeBytes (SpliceMode.Program t) n = timeBytes (immediate t) t
-modeBytes (SpliceMode.Components k) n = 1 + n
+abbrev pub mode_bytes : SpliceMode → ℕ → ℕ
+mode_bytes (SpliceMode.Program t) n = time_bytes (immediate t) t
+mode_bytes (SpliceMode.Components k) n = 1 + n
 
-abbrev pub breakBytes : Break → ℕ
-breakBytes Break.Absent = 0
-breakBytes (Break.Lasts d) = 5
+abbrev pub break_bytes : Break → ℕ
+break_bytes Break.Absent = 0
+break_bytes (Break.Lasts d) = 5
 
 -- by what 32 asks, by what 33 asks, and the size
 abbrev pub measured : Bool → Bool → ℕ → Measured
@@ -49,10 +49,10 @@ measured fits writable size =
     (record { refusal = 33; size = 0 }))
     (record { refusal = 32; size = 0 })
 
-abbrev pub cancelMeasured : ℕ → Measured
-cancelMeasured reserved = measured (ltb reserved 128) (eqb reserved 127) 5
+abbrev pub cancel_measured : ℕ → Measured
+cancel_measured reserved = measured (ltb reserved 128) (eqb reserved 127) 5
 
-unfoldable pub activeMeasured : ℕ → SpliceMode → Break → Survey → Measured
-activeMeasured reserved mode duration s =
-    measured (s.fits && (ltb reserved 128 && (ltb (ticks (programTime mode)) (2 ^ 33) && ltb (breakTicks duration) (2 ^ 33)))) (eqb reserved 127 && s.alike)
-    (10 + modeBytes mode s.bytes + breakBytes duration)
+unfoldable pub active_measured : ℕ → SpliceMode → Break → Survey → Measured
+active_measured reserved mode duration s =
+    measured (s.fits && (ltb reserved 128 && (ltb (ticks (program_time mode)) (2 ^ 33) && ltb (break_ticks duration) (2 ^ 33)))) (eqb reserved 127 && s.alike)
+    (10 + mode_bytes mode s.bytes + break_bytes duration)

@@ -1,7 +1,7 @@
 // Measuring a command before it is written: which refusal it has, and how many bytes its payload has. One without components, or with blank ones, needs no array.
 ghost use Rattle.std.specs.Prelude.{◌≤◌, ◌≡◌, true, []};
-ghost use Rattle.command.specs.Command.{array, countIn, private};
-ghost use Rattle.command_measure.specs.Made.{commandMade, measuredOf};
+ghost use Rattle.command.specs.Command.{array, count_in, private};
+ghost use Rattle.command_measure.specs.Made.{command_made, measured_of};
 ghost use Rattle.table.specs.Writing.{make};
 
 use crate::measure::{measure_insert, measure_insert_without_components, measure_time};
@@ -29,7 +29,7 @@ fn refuse(n: u8) -> Measured
 
 // A private command; the rest of its payload is a view of the lent bytes.
 fn measure_private(p: Private, lent: &[u8]) -> Measured
-    ensures { result ≡ measuredOf (make private true lent.now p) }
+    ensures { result ≡ measured_of (make private true lent.now p) }
 {
     let bytes = p.private_bytes;
     if !lies_in(lent, bytes) {
@@ -43,7 +43,7 @@ fn measure_private(p: Private, lent: &[u8]) -> Measured
 
 // Of a command whose components are all blank, if it has any: which refusal it has, 31 to 33, and how many bytes its payload has.
 pub fn measure_without_components(command: SpliceCommand, lent: &[u8]) -> Measured
-    ensures { (result ≡ measuredOf (commandMade command (array []) lent.now)) × (countIn command ≤ 255) }
+    ensures { (result ≡ measured_of (command_made command (array []) lent.now)) × (count_in command ≤ 255) }
 {
     match command {
         SpliceCommand::SpliceNull => Measured {
@@ -66,7 +66,7 @@ pub fn measure_command(
     components: [InsertComponent; MAX_COMPONENTS],
     lent: &[u8],
 ) -> Measured
-    ensures { (result ≡ measuredOf (commandMade command components lent.now)) × (countIn command ≤ 255) }
+    ensures { (result ≡ measured_of (command_made command components lent.now)) × (count_in command ≤ 255) }
 {
     match command {
         SpliceCommand::SpliceInsert(i) => measure_insert(i, components),

@@ -2,11 +2,11 @@
 ghost use Rattle.std.specs.Prelude.{◌≡◌, not, ◌&&◌, [], ◌^◌, ◌<◌, ◌≤◌, ltb, take, get_or};
 ghost use Rattle.command.specs.Command.{array, Tags};
 ghost use Rattle.command.specs.Insert as insert;
-ghost use Rattle.splice_time.specs.Break.{breakTicks};
-ghost use Rattle.command.specs.Insert.{immediate, programTime, blank};
-ghost use Rattle.command_measure.specs.Made.{counted, insertMade, measuredOf};
-ghost use Rattle.command_measure.specs.Survey.{timeBytes, adding, surveyed, blanksOf, modeBytes, breakBytes, measured, cancelMeasured, activeMeasured};
-ghost use Rattle.splice_time.specs.Time.{spliceTime, ticks, notImmediate};
+ghost use Rattle.splice_time.specs.Break.{break_ticks};
+ghost use Rattle.command.specs.Insert.{immediate, program_time, blank};
+ghost use Rattle.command_measure.specs.Made.{counted, insert_made, measured_of};
+ghost use Rattle.command_measure.specs.Survey.{time_bytes, adding, surveyed, blanks_of, mode_bytes, break_bytes, measured, cancel_measured, active_measured};
+ghost use Rattle.splice_time.specs.Time.{splice_time, ticks, not_immediate};
 ghost use Rattle.table.specs.Bits.{pick};
 ghost use Rattle.table.specs.Writing.{make};
 
@@ -66,7 +66,7 @@ fn time_fits(time: SpliceTime) -> bool
 
 // The bytes of a time, none where the insert is immediate. (An immediate time among timed ones is refused.)
 fn time_size(time: SpliceTime, at_once: bool) -> usize
-    ensures { (result ≡ timeBytes at_once time) × (result ≤ 5) }
+    ensures { (result ≡ time_bytes at_once time) × (result ≤ 5) }
 {
     if at_once {
         return 0;
@@ -80,7 +80,7 @@ fn time_size(time: SpliceTime, at_once: bool) -> usize
 
 // A time signal's payload.
 pub(crate) fn measure_time(time: SpliceTime) -> Measured
-    ensures { result ≡ measuredOf (make spliceTime (notImmediate time) [] time) }
+    ensures { result ≡ measured_of (make splice_time (not_immediate time) [] time) }
 {
     let fits = time_fits(time);
     let at_once = is_immediate(time);
@@ -158,7 +158,7 @@ pub fn are_immediate(n: u8, components: [InsertComponent; MAX_COMPONENTS]) -> bo
 
 // Of components that are all blank: two bytes for each, and no array.
 fn blanks_of(mode: SpliceMode) -> Survey
-    ensures { (result ≡ blanksOf mode) × (insert.count mode ≤ 255) }
+    ensures { (result ≡ blanks_of mode) × (insert.count mode ≤ 255) }
 {
     match mode {
         SpliceMode::Program(_) => Survey {
@@ -176,7 +176,7 @@ fn blanks_of(mode: SpliceMode) -> Survey
 
 // Does a time by program fit its field?
 fn mode_fits(mode: SpliceMode) -> bool
-    ensures { result ≡ ltb (ticks (programTime mode)) (2 ^ 33) }
+    ensures { result ≡ ltb (ticks (program_time mode)) (2 ^ 33) }
 {
     match mode {
         SpliceMode::Program(t) => time_fits(t),
@@ -185,7 +185,7 @@ fn mode_fits(mode: SpliceMode) -> bool
 }
 
 fn break_fits(duration: Break) -> bool
-    ensures { result ≡ ltb (breakTicks duration) (2 ^ 33) }
+    ensures { result ≡ ltb (break_ticks duration) (2 ^ 33) }
 {
     match duration {
         Break::Absent => true,
@@ -196,7 +196,7 @@ fn break_fits(duration: Break) -> bool
 // The bytes of a time by program, or of the components and their count.
 fn mode_size(mode: SpliceMode, bytes: usize) -> usize
     requires { bytes ≤ 1530 }
-    ensures { (result ≡ modeBytes mode bytes) × (result ≤ 1531) }
+    ensures { (result ≡ mode_bytes mode bytes) × (result ≤ 1531) }
 {
     match mode {
         SpliceMode::Program(t) => {
@@ -208,7 +208,7 @@ fn mode_size(mode: SpliceMode, bytes: usize) -> usize
 }
 
 fn break_size(duration: Break) -> usize
-    ensures { (result ≡ breakBytes duration) × (result ≤ 5) }
+    ensures { (result ≡ break_bytes duration) × (result ≤ 5) }
 {
     match duration {
         Break::Absent => 0,
@@ -219,7 +219,7 @@ fn break_size(duration: Break) -> usize
 // What is not cancelled, of whose components s is said.
 fn measure_active(reserved: u8, insert: InsertDetail, s: Survey) -> Measured
     requires { s.bytes ≤ 1530 }
-    ensures { (result ≡ activeMeasured reserved insert.splice_mode insert.duration s) × (insert.unique_program_id < 2 ^ 16) × (insert.avail_num < 256) × (insert.avails_expected < 256) }
+    ensures { (result ≡ active_measured reserved insert.splice_mode insert.duration s) × (insert.unique_program_id < 2 ^ 16) × (insert.avail_num < 256) × (insert.avails_expected < 256) }
 {
     let mode = insert.splice_mode;
     let duration = insert.duration;
@@ -234,7 +234,7 @@ fn measure_active(reserved: u8, insert: InsertDetail, s: Survey) -> Measured
 
 // An insert whose components are all blank, if it has any.
 pub(crate) fn measure_insert_without_components(i: SpliceInsert) -> Measured
-    ensures { (result ≡ measuredOf (insertMade (counted i (array [])))) × (insert.count (insert.insertOf i.splice_detail).splice_mode ≤ 255) }
+    ensures { (result ≡ measured_of (insert_made (counted i (array [])))) × (insert.count (insert.insert_of i.splice_detail).splice_mode ≤ 255) }
 {
     let reserved = i.reserved;
     let detail = i.splice_detail;
@@ -249,7 +249,7 @@ pub(crate) fn measure_insert_without_components(i: SpliceInsert) -> Measured
 
 // An insert with its components: only one by components looks at them.
 pub fn measure_insert(i: SpliceInsert, components: [InsertComponent; MAX_COMPONENTS]) -> Measured
-    ensures { (result ≡ measuredOf (insertMade (counted i components))) × (insert.count (insert.insertOf i.splice_detail).splice_mode ≤ 255) }
+    ensures { (result ≡ measured_of (insert_made (counted i components))) × (insert.count (insert.insert_of i.splice_detail).splice_mode ≤ 255) }
 {
     let reserved = i.reserved;
     let detail = i.splice_detail;

@@ -5,9 +5,9 @@ use Rattle.bit_stores.specs.declared.Written.{Written}
 use Rattle.table.specs.Bits.{pick}
 
 -- there is room for it from byte `at` on
-abbrev pub hasRoom : Measured → ℕ → ℕ → Bool
-hasRoom m at room = eqb m.refusal 0 && leb (at + m.size) room
+abbrev pub has_room : Measured → ℕ → ℕ → Bool
+has_room m at room = eqb m.refusal 0 && leb (at + m.size) room
 
 -- what is answered where the target has `room` bytes
-abbrev pub answerMeasured : Measured → ℕ → Written
-answerMeasured m room = pick (eqb m.refusal 0) (pick (leb m.size room) (Written.Wrote m.size) (Written.Refused 36)) (Written.Refused m.refusal)
+abbrev pub answer_measured : Measured → ℕ → Written
+answer_measured m room = pick (eqb m.refusal 0) (pick (leb m.size room) (Written.Wrote m.size) (Written.Refused 36)) (Written.Refused m.refusal)

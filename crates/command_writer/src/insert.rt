@@ -1,11 +1,11 @@
 // Writing a splice_insert(), field by field as its table stands.
 ghost use Rattle.std.specs.Prelude.{◌+◌, ◌*◌, ◌%◌, ◌^◌, ◌<◌, ◌≤◌, take, [], ◌≡◌};
-ghost use Rattle.command.specs.Insert.{byProgram};
+ghost use Rattle.command.specs.Insert.{by_program};
 ghost use Rattle.splice_time.specs.Break.{lasting};
 ghost use Rattle.command.specs.Command.{array};
 ghost use Rattle.splice_time.specs.declared.break_duration.Break.{Break};
 ghost use Rattle.command.specs.declared.insert.SpliceMode.{SpliceMode};
-ghost use Rattle.command_measure.specs.Fields.{ink, componentFields, listFields, insertFlags, breakFields, tailFields, endFields, places_of, activeFields, insertFields};
+ghost use Rattle.command_measure.specs.Fields.{ink, component_fields, list_fields, insert_flags, break_fields, tail_fields, end_fields, places_of, active_fields, insert_fields};
 ghost use Rattle.command_measure.specs.Made.{counted};
 ghost use Rattle.bit_stores.specs.Pen.{Pens};
 ghost use Rattle.bit_stores.specs.Private.{Fits};
@@ -23,8 +23,8 @@ use table::cursor::Cursor;
 use table::numbers::{flag_number, wide};
 
 fn store_component(out: &mut [u8], c: Cursor, component: InsertComponent, at_once: bool) -> Cursor
-    requires { Fits out.old c (ink (componentFields at_once component)) }
-    ensures { Pens out.old c (ink (componentFields at_once component)) out.new result }
+    requires { Fits out.old c (ink (component_fields at_once component)) }
+    ensures { Pens out.old c (ink (component_fields at_once component)) out.new result }
 {
     let tag = component.component_tag;
     let time = component.splice_time;
@@ -43,8 +43,8 @@ fn store_components(
     count: usize,
     at_once: bool,
 ) -> Cursor
-    requires { (count ≤ 255) × AllBytes out.old × Settled c × Fits out.old c (ink (listFields at_once (take count components))) }
-    ensures { Pens out.old c (ink (listFields at_once (take count components))) out.new result }
+    requires { (count ≤ 255) × AllBytes out.old × Settled c × Fits out.old c (ink (list_fields at_once (take count components))) }
+    ensures { Pens out.old c (ink (list_fields at_once (take count components))) out.new result }
 {
     let mut next = c;
     let mut i: usize = 0;
@@ -57,7 +57,7 @@ fn store_components(
 }
 
 fn is_program(mode: SpliceMode) -> bool
-    ensures { result ≡ byProgram mode }
+    ensures { result ≡ by_program mode }
 {
     match mode {
         SpliceMode::Program(_) => true,
@@ -76,8 +76,8 @@ fn lasts(duration: Break) -> bool
 
 // Four flags and four reserved bits.
 fn store_flags(out: &mut [u8], c: Cursor, insert: InsertDetail, at_once: bool) -> Cursor
-    requires { Fits out.old c (ink (insertFlags insert at_once)) }
-    ensures { Pens out.old c (ink (insertFlags insert at_once)) out.new result }
+    requires { Fits out.old c (ink (insert_flags insert at_once)) }
+    ensures { Pens out.old c (ink (insert_flags insert at_once)) out.new result }
 {
     let indicator = insert.network_indicator;
     let mode = insert.splice_mode;
@@ -96,8 +96,8 @@ fn store_flags(out: &mut [u8], c: Cursor, insert: InsertDetail, at_once: bool) -
 
 // A break_duration().
 fn store_break(out: &mut [u8], c: Cursor, d: SpliceDuration) -> Cursor
-    requires { Fits out.old c (ink (breakFields (Break.Lasts d))) }
-    ensures { Pens out.old c (ink (breakFields (Break.Lasts d))) out.new result }
+    requires { Fits out.old c (ink (break_fields (Break.Lasts d))) }
+    ensures { Pens out.old c (ink (break_fields (Break.Lasts d))) out.new result }
 {
     let mode = d.return_mode;
     let duration = d.duration;
@@ -111,8 +111,8 @@ fn store_break(out: &mut [u8], c: Cursor, d: SpliceDuration) -> Cursor
 }
 
 fn store_tail(out: &mut [u8], c: Cursor, program_id: u16, avail: u8, expected: u8) -> Cursor
-    requires { Fits out.old c (ink (tailFields program_id avail expected)) }
-    ensures { Pens out.old c (ink (tailFields program_id avail expected)) out.new result }
+    requires { Fits out.old c (ink (tail_fields program_id avail expected)) }
+    ensures { Pens out.old c (ink (tail_fields program_id avail expected)) out.new result }
 {
     put_bits(
         out,
@@ -124,8 +124,8 @@ fn store_tail(out: &mut [u8], c: Cursor, program_id: u16, avail: u8, expected: u
 
 // From the duration on.
 fn store_end(out: &mut [u8], c: Cursor, insert: InsertDetail) -> Cursor
-    requires { Fits out.old c (ink (endFields insert)) }
-    ensures { Pens out.old c (ink (endFields insert)) out.new result }
+    requires { Fits out.old c (ink (end_fields insert)) }
+    ensures { Pens out.old c (ink (end_fields insert)) out.new result }
 {
     let duration = insert.duration;
     match duration {
@@ -157,8 +157,8 @@ fn store_listed(
     n: u8,
     components: [InsertComponent; MAX_COMPONENTS],
 ) -> Cursor
-    requires { (insert.splice_mode ≡ SpliceMode.Components n) × Fits out.old c (ink (activeFields insert (places_of insert components))) }
-    ensures { Pens out.old c (ink (activeFields insert (places_of insert components))) out.new result }
+    requires { (insert.splice_mode ≡ SpliceMode.Components n) × Fits out.old c (ink (active_fields insert (places_of insert components))) }
+    ensures { Pens out.old c (ink (active_fields insert (places_of insert components))) out.new result }
 {
     let at_once = are_immediate(n, components);
     let c = store_flags(out, c, insert, at_once);
@@ -169,8 +169,8 @@ fn store_listed(
 
 // By program.
 fn store_by_program(out: &mut [u8], c: Cursor, insert: InsertDetail, time: SpliceTime) -> Cursor
-    requires { (insert.splice_mode ≡ SpliceMode.Program time) × Fits out.old c (ink (activeFields insert [])) }
-    ensures { Pens out.old c (ink (activeFields insert [])) out.new result }
+    requires { (insert.splice_mode ≡ SpliceMode.Program time) × Fits out.old c (ink (active_fields insert [])) }
+    ensures { Pens out.old c (ink (active_fields insert [])) out.new result }
 {
     let at_once = is_immediate(time);
     let c = store_flags(out, c, insert, at_once);
@@ -183,8 +183,8 @@ fn store_by_program(out: &mut [u8], c: Cursor, insert: InsertDetail, time: Splic
 
 // By no component: their count alone.
 fn store_by_none(out: &mut [u8], c: Cursor, insert: InsertDetail) -> Cursor
-    requires { (insert.splice_mode ≡ SpliceMode.Components 0) × Fits out.old c (ink (activeFields insert [])) }
-    ensures { Pens out.old c (ink (activeFields insert [])) out.new result }
+    requires { (insert.splice_mode ≡ SpliceMode.Components 0) × Fits out.old c (ink (active_fields insert [])) }
+    ensures { Pens out.old c (ink (active_fields insert [])) out.new result }
 {
     let c = store_flags(out, c, insert, false);
     let c = put_bits(out, c, 8, 0);
@@ -193,8 +193,8 @@ fn store_by_none(out: &mut [u8], c: Cursor, insert: InsertDetail) -> Cursor
 
 // With blank components, if it has any: only then is there an array.
 fn store_active(out: &mut [u8], c: Cursor, insert: InsertDetail) -> Cursor
-    requires { Fits out.old c (ink (activeFields insert (places_of insert (array [])))) }
-    ensures { Pens out.old c (ink (activeFields insert (places_of insert (array [])))) out.new result }
+    requires { Fits out.old c (ink (active_fields insert (places_of insert (array [])))) }
+    ensures { Pens out.old c (ink (active_fields insert (places_of insert (array [])))) out.new result }
 {
     let mode = insert.splice_mode;
     match mode {
@@ -217,8 +217,8 @@ fn event_number(i: SpliceInsert) -> u64
 
 // An insert whose components are all blank, if it has any.
 pub(crate) fn store_insert_without_components(out: &mut [u8], c: Cursor, i: SpliceInsert) -> Cursor
-    requires { Fits out.old c (ink (insertFields (counted i (array [])))) }
-    ensures { Pens out.old c (ink (insertFields (counted i (array [])))) out.new result }
+    requires { Fits out.old c (ink (insert_fields (counted i (array [])))) }
+    ensures { Pens out.old c (ink (insert_fields (counted i (array [])))) out.new result }
 {
     let detail = i.splice_detail;
     let event = event_number(i);
@@ -238,8 +238,8 @@ pub(crate) fn store_insert(
     i: SpliceInsert,
     components: [InsertComponent; MAX_COMPONENTS],
 ) -> Cursor
-    requires { Fits out.old c (ink (insertFields (counted i components))) }
-    ensures { Pens out.old c (ink (insertFields (counted i components))) out.new result }
+    requires { Fits out.old c (ink (insert_fields (counted i components))) }
+    ensures { Pens out.old c (ink (insert_fields (counted i components))) out.new result }
 {
     let detail = i.splice_detail;
     let insert = match detail {

@@ -1,12 +1,12 @@
 // Writing the payload of a command. One without components, or with blank ones, is handed no array; the forms below that take it say what components add.
 ghost use Rattle.std.specs.Prelude.{◌≡◌, [], ◌+◌, ◌≤◌, length};
-ghost use Rattle.command_measure.specs.Made.{counted, insertMade, commandMade};
-ghost use Rattle.command.specs.Command.{array, countIn};
-ghost use Rattle.command_measure.specs.Fields.{privateInk};
-ghost use Rattle.command_writer.specs.Private.{hasRoom, answerMeasured};
+ghost use Rattle.command_measure.specs.Made.{counted, insert_made, command_made};
+ghost use Rattle.command.specs.Command.{array, count_in};
+ghost use Rattle.command_measure.specs.Fields.{private_ink};
+ghost use Rattle.command_writer.specs.Private.{has_room, answer_measured};
 ghost use Rattle.bit_stores.specs.Pen.{Pens};
 ghost use Rattle.bit_stores.specs.Private.{Fits};
-ghost use Rattle.bit_stores.specs.Written.{answer_of, laterOf, refusalIn, bytesIn};
+ghost use Rattle.bit_stores.specs.Written.{answer_of, later_of, refusal_in, bytes_in};
 ghost use Rattle.table.specs.Bits.{AllBytes};
 ghost use Rattle.table.specs.Lent.{stored};
 
@@ -25,8 +25,8 @@ pub mod insert;
 pub mod time;
 
 fn store_private(out: &mut [u8], c: Cursor, p: Private, lent: &[u8]) -> Cursor
-    requires { Fits out.old c (privateInk p lent.now) }
-    ensures { Pens out.old c (privateInk p lent.now) out.new result }
+    requires { Fits out.old c (private_ink p lent.now) }
+    ensures { Pens out.old c (private_ink p lent.now) out.new result }
 {
     let bytes = p.private_bytes;
     let c = put_bits(out, c, 32, p.identifier as u64);
@@ -35,8 +35,8 @@ fn store_private(out: &mut [u8], c: Cursor, p: Private, lent: &[u8]) -> Cursor
 
 // A payload for which there is room, and no refusal.
 fn store_without_components(out: &mut [u8], at: usize, command: SpliceCommand, lent: &[u8])
-    requires { AllBytes out.old × (refusalIn (commandMade command (array []) lent.now) ≡ 0) × (at + length (bytesIn (commandMade command (array []) lent.now)) ≤ length out.old) × (countIn command ≤ 255) }
-    ensures { out.new ≡ stored out.old at (bytesIn (commandMade command (array []) lent.now)) }
+    requires { AllBytes out.old × (refusal_in (command_made command (array []) lent.now) ≡ 0) × (at + length (bytes_in (command_made command (array []) lent.now)) ≤ length out.old) × (count_in command ≤ 255) }
+    ensures { out.new ≡ stored out.old at (bytes_in (command_made command (array []) lent.now)) }
 {
     let c = Cursor { byte: at, bit: 0 };
     match command {
@@ -56,7 +56,7 @@ fn store_without_components(out: &mut [u8], at: usize, command: SpliceCommand, l
 
 // Is it not refused, and is there room for it from a byte on?
 fn has_room(measured: Measured, at: usize, room: usize) -> bool
-    ensures { result ≡ hasRoom measured at room }
+    ensures { result ≡ has_room measured at room }
 {
     if 0 < measured.refusal {
         return false;
@@ -72,7 +72,7 @@ fn has_room(measured: Measured, at: usize, room: usize) -> bool
 
 // The payload from a byte of the target on; nothing where it is refused or does not fit.
 pub fn put_without_components(out: &mut [u8], at: usize, command: SpliceCommand, lent: &[u8])
-    ensures { out.new ≡ stored out.old at (bytesIn (commandMade command (array []) lent.now)) }
+    ensures { out.new ≡ stored out.old at (bytes_in (command_made command (array []) lent.now)) }
 {
     if has_room(measure_without_components(command, lent), at, out.len()) {
         store_without_components(out, at, command, lent);
@@ -81,7 +81,7 @@ pub fn put_without_components(out: &mut [u8], at: usize, command: SpliceCommand,
 
 // What is answered where the target has `room` bytes.
 fn answer_measured(measured: Measured, room: usize) -> Written
-    ensures { result ≡ answerMeasured measured room }
+    ensures { result ≡ answer_measured measured room }
 {
     let refusal = measured.refusal;
     let size = measured.size;
@@ -100,8 +100,8 @@ pub fn write_command_without_components(
     lent: &[u8],
     target: &mut [u8],
 ) -> Written
-    ensures answer { result ≡ answer_of (commandMade command (array []) lent.now) target.old }
-    ensures bytes { target.new ≡ laterOf (commandMade command (array []) lent.now) target.old }
+    ensures answer { result ≡ answer_of (command_made command (array []) lent.now) target.old }
+    ensures bytes { target.new ≡ later_of (command_made command (array []) lent.now) target.old }
 {
     let answer = answer_measured(measure_without_components(command, lent), target.len());
     match answer {
@@ -120,7 +120,7 @@ fn put_insert(
     i: SpliceInsert,
     components: [InsertComponent; MAX_COMPONENTS],
 )
-    ensures { out.new ≡ stored out.old at (bytesIn (insertMade (counted i components))) }
+    ensures { out.new ≡ stored out.old at (bytes_in (insert_made (counted i components))) }
 {
     if has_room(measure_insert(i, components), at, out.len()) {
         let _ = store_insert(out, Cursor { byte: at, bit: 0 }, i, components);
@@ -135,7 +135,7 @@ pub fn put_command(
     components: [InsertComponent; MAX_COMPONENTS],
     lent: &[u8],
 )
-    ensures { out.new ≡ stored out.old at (bytesIn (commandMade command components lent.now)) }
+    ensures { out.new ≡ stored out.old at (bytes_in (command_made command components lent.now)) }
 {
     match command {
         SpliceCommand::SpliceInsert(i) => put_insert(out, at, i, components),
@@ -149,8 +149,8 @@ fn write_insert(
     components: [InsertComponent; MAX_COMPONENTS],
     target: &mut [u8],
 ) -> Written
-    ensures answer { result ≡ answer_of (insertMade (counted i components)) target.old }
-    ensures bytes { target.new ≡ laterOf (insertMade (counted i components)) target.old }
+    ensures answer { result ≡ answer_of (insert_made (counted i components)) target.old }
+    ensures bytes { target.new ≡ later_of (insert_made (counted i components)) target.old }
 {
     let answer = answer_measured(measure_insert(i, components), target.len());
     match answer {
@@ -169,8 +169,8 @@ pub fn write_command(
     lent: &[u8],
     target: &mut [u8],
 ) -> Written
-    ensures answer { result ≡ answer_of (commandMade command components lent.now) target.old }
-    ensures bytes { target.new ≡ laterOf (commandMade command components lent.now) target.old }
+    ensures answer { result ≡ answer_of (command_made command components lent.now) target.old }
+    ensures bytes { target.new ≡ later_of (command_made command components lent.now) target.old }
 {
     match command {
         SpliceCommand::SpliceInsert(i) => write_insert(i, components, target),

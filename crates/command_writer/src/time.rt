@@ -1,5 +1,5 @@
 // Writing a splice_time().
-ghost use Rattle.command_measure.specs.Fields.{ink, timeFields};
+ghost use Rattle.command_measure.specs.Fields.{ink, time_fields};
 ghost use Rattle.bit_stores.specs.Pen.{Pens};
 ghost use Rattle.bit_stores.specs.Private.{Fits};
 
@@ -10,8 +10,8 @@ use table::cursor::Cursor;
 // The flag and its reserved bits are all 1 where a time is specified; else the flag is clear. (An immediate time is refused or left out before; a time fits its
 // 33 bits, which the remainder says to the proof.)
 pub(crate) fn store_time(out: &mut [u8], c: Cursor, time: SpliceTime) -> Cursor
-    requires { Fits out.old c (ink (timeFields time)) }
-    ensures { Pens out.old c (ink (timeFields time)) out.new result }
+    requires { Fits out.old c (ink (time_fields time)) }
+    ensures { Pens out.old c (ink (time_fields time)) out.new result }
 {
     let ticks = match time {
         SpliceTime::At(t) => t,

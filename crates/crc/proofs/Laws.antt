@@ -14,32 +14,32 @@ use lib.ListN.{length, get_or, take, drop, take-append-drop, length-drop}
 use lib.Seq.{get_or-drop}
 use lib.Pow.{shr-shr, split}
 use lib.Bits.{bit_xor, xor_self, xor_lt}
-use Rattle.crc.specs.Crc.{polynomial, allOnes, fed, crcBit, crcBits, crcOf, crcBytesOf}
+use Rattle.crc.specs.Crc.{polynomial, all_ones, fed, crc_bit, crc_bits, crc_of, crc_bytes_of}
 use Rattle.table.specs.Bits.{bits_of}
 use Rattle.crc_table.specs.Turns.{turn, turns}
-use Rattle.crc.specs.Private.{crcBytes, number_at}
-use Rattle.crc.proofs.Bytes.{past-none, bytes-append, pass}
-use Rattle.crc.proofs.Turns.{turn-lt, turns-lin}
-use Rattle.crc.proofs.Xor.{xor-zero→eq}
+use Rattle.crc.specs.Private.{crc_bytes, number_at}
+use Rattle.crc.proofs.Bytes.{past_none, bytes_append, pass}
+use Rattle.crc.proofs.Turns.{turn_lt, turns_lin}
+use Rattle.crc.proofs.Xor.{xor_zero→eq}
 
 -- ---- the register stays below 2 ^ 32, whatever comes in
 
-fed-lt : (f z : ℕ) → z < 2 ^ 32 → fed f z < 2 ^ 32
-fed-lt zero z h = h
-fed-lt (suc f) z h = xor_lt 32 z polynomial h (lit< tt)
+fed_lt : (f z : ℕ) → z < 2 ^ 32 → fed f z < 2 ^ 32
+fed_lt zero z h = h
+fed_lt (suc f) z h = xor_lt 32 z polynomial h (lit< tt)
 
-pub bit-lt : (z bit : ℕ) → crcBit z bit < 2 ^ 32
-unfolding crcBit
-bit-lt z bit = fed-lt (bit_xor (z / 2 ^ 31) bit) (z * 2 % 2 ^ 32) (omega arith)
+pub bit_lt : (z bit : ℕ) → crc_bit z bit < 2 ^ 32
+unfolding crc_bit
+bit_lt z bit = fed_lt (bit_xor (z / 2 ^ 31) bit) (z * 2 % 2 ^ 32) (omega arith)
 
-bits-lt : (z : ℕ) (xs : List ℕ) → z < 2 ^ 32 → crcBits z xs < 2 ^ 32
-unfolding crcBits
-bits-lt z [] h = h
-bits-lt z (x ∷ xs) h = bits-lt (crcBit z x) xs (bit-lt z x)
+bits_lt : (z : ℕ) (xs : List ℕ) → z < 2 ^ 32 → crc_bits z xs < 2 ^ 32
+unfolding crc_bits
+bits_lt z [] h = h
+bits_lt z (x ∷ xs) h = bits_lt (crc_bit z x) xs (bit_lt z x)
 
-pub crc-lt : (m : List ℕ) → crcOf m < 2 ^ 32
-unfolding crcOf
-crc-lt m = bits-lt allOnes (bits_of m) (lit< tt)
+pub crc_lt : (m : List ℕ) → crc_of m < 2 ^ 32
+unfolding crc_of
+crc_lt m = bits_lt all_ones (bits_of m) (lit< tt)
 
 -- ---- four bytes behind a message
 
@@ -47,24 +47,24 @@ crc-lt m = bits-lt allOnes (bits_of m) (lit< tt)
 abbrev four : ℕ → ℕ → ℕ → ℕ → ℕ
 four a b c d = ((a * 256 + b) * 256 + c) * 256 + d
 
-four-are-bytes : (a b c d : ℕ) → a < 256 → b < 256 → c < 256 → d < 256 → (k : ℕ) → get_or (a ∷ b ∷ c ∷ d ∷ []) k 0 < 256
-four-are-bytes a b c d ha hb hc hd zero = ha
-four-are-bytes a b c d ha hb hc hd (suc zero) = hb
-four-are-bytes a b c d ha hb hc hd (suc (suc zero)) = hc
-four-are-bytes a b c d ha hb hc hd (suc (suc (suc zero))) = hd
-four-are-bytes a b c d ha hb hc hd (suc (suc (suc (suc k)))) = lit< tt
+four_are_bytes : (a b c d : ℕ) → a < 256 → b < 256 → c < 256 → d < 256 → (k : ℕ) → get_or (a ∷ b ∷ c ∷ d ∷ []) k 0 < 256
+four_are_bytes a b c d ha hb hc hd zero = ha
+four_are_bytes a b c d ha hb hc hd (suc zero) = hb
+four_are_bytes a b c d ha hb hc hd (suc (suc zero)) = hc
+four_are_bytes a b c d ha hb hc hd (suc (suc (suc zero))) = hd
+four_are_bytes a b c d ha hb hc hd (suc (suc (suc (suc k)))) = lit< tt
 
-four-behind : (m : List ℕ) (a b c d : ℕ) → a < 256 → b < 256 → c < 256 → d < 256
-    → crcOf (m ++ a ∷ b ∷ c ∷ d ∷ []) ≡ turns 32 (bit_xor (crcOf m) (four a b c d))
-unfolding crcBytes crcBits number_at
-four-behind m a b c d ha hb hc hd =
+four_behind : (m : List ℕ) (a b c d : ℕ) → a < 256 → b < 256 → c < 256 → d < 256
+    → crc_of (m ++ a ∷ b ∷ c ∷ d ∷ []) ≡ turns 32 (bit_xor (crc_of m) (four a b c d))
+unfolding crc_bytes crc_bits number_at
+four_behind m a b c d ha hb hc hd =
     let x : List ℕ = a ∷ b ∷ c ∷ d ∷ [] in
-    let z : ℕ = crcOf m in
+    let z : ℕ = crc_of m in
     let n : number_at x 0 4 ≡ four a b c d = omega arith in
-    sym (past-none (m ++ x)) ∙ bytes-append allOnes m x ∙ ap (λ (k : ℕ). crcBytes k x) (past-none m)
-    ∙ pass x (four-are-bytes a b c d ha hb hc hd) 0 4 z (omega arith) (omega arith) (crc-lt m)
+    sym (past_none (m ++ x)) ∙ bytes_append all_ones m x ∙ ap (λ (k : ℕ). crc_bytes k x) (past_none m)
+    ∙ pass x (four_are_bytes a b c d ha hb hc hd) 0 4 z (omega arith) (omega arith) (crc_lt m)
     ∙ ap (λ (k : ℕ). bit_xor (turns 32 z) (turns 32 k)) n
-    ∙ sym ((turns-lin 32).at z (four a b c d))
+    ∙ sym ((turns_lin 32).at z (four a b c d))
 
 -- a number of 32 bits is that of its four bytes
 four_bytes : (c : ℕ) → c < 2 ^ 32 → four (c / 2 ^ 24 % 256) (c / 2 ^ 16 % 256) (c / 2 ^ 8 % 256) (c / 2 ^ 0 % 256) ≡ c
@@ -79,62 +79,62 @@ four_bytes c h =
     ∙ ap (λ (n : ℕ). n * 256 + c % 256) f
     ∙ split c 8
 
-pub crc-appended : (m : List ℕ) → crcOf (m ++ crcBytesOf m) ≡ 0
+pub crc_appended : (m : List ℕ) → crc_of (m ++ crc_bytes_of m) ≡ 0
 unfolding turns turn
-crc-appended m =
-    let c : ℕ = crcOf m in
-    four-behind m (c / 2 ^ 24 % 256) (c / 2 ^ 16 % 256) (c / 2 ^ 8 % 256) (c / 2 ^ 0 % 256) (omega arith) (omega arith) (omega arith) (omega arith)
-    ∙ ap (λ (n : ℕ). turns 32 (bit_xor c n)) (four_bytes c (crc-lt m))
+crc_appended m =
+    let c : ℕ = crc_of m in
+    four_behind m (c / 2 ^ 24 % 256) (c / 2 ^ 16 % 256) (c / 2 ^ 8 % 256) (c / 2 ^ 0 % 256) (omega arith) (omega arith) (omega arith) (omega arith)
+    ∙ ap (λ (n : ℕ). turns 32 (bit_xor c n)) (four_bytes c (crc_lt m))
     ∙ ap (turns 32) (xor_self c)
 
 -- a step loses nothing: the polynomial is odd
-top-zero : (t r : ℕ) → t < 2 → r % 2 ≡ 0 → r ≡ t * polynomial → t ≡ 0
-top-zero zero r h o e = refl
-top-zero (suc zero) r h o e = absurd (omega arith)
-top-zero (suc (suc t)) r h o e = absurd (omega arith)
+top_zero : (t r : ℕ) → t < 2 → r % 2 ≡ 0 → r ≡ t * polynomial → t ≡ 0
+top_zero zero r h o e = refl
+top_zero (suc zero) r h o e = absurd (omega arith)
+top_zero (suc (suc t)) r h o e = absurd (omega arith)
 
-turn-zero : (z : ℕ) → z < 2 ^ 32 → turn z ≡ 0 → z ≡ 0
+turn_zero : (z : ℕ) → z < 2 ^ 32 → turn z ≡ 0 → z ≡ 0
 unfolding turn
-turn-zero z h e =
-    let f : z * 2 % 2 ^ 32 ≡ z / 2 ^ 31 % 2 * polynomial = xor-zero→eq (z * 2 % 2 ^ 32) (z / 2 ^ 31 % 2 * polynomial) e in
+turn_zero z h e =
+    let f : z * 2 % 2 ^ 32 ≡ z / 2 ^ 31 % 2 * polynomial = xor_zero→eq (z * 2 % 2 ^ 32) (z / 2 ^ 31 % 2 * polynomial) e in
     let o : z * 2 % 2 ^ 32 % 2 ≡ 0 = omega arith in
-    let t : z / 2 ^ 31 % 2 ≡ 0 = top-zero (z / 2 ^ 31 % 2) (z * 2 % 2 ^ 32) (omega arith) o f in
+    let t : z / 2 ^ 31 % 2 ≡ 0 = top_zero (z / 2 ^ 31 % 2) (z * 2 % 2 ^ 32) (omega arith) o f in
     let q : z / 2 ^ 31 ≡ 0 = sym (mod-eq_of_lt (omega arith)) ∙ t in
     let l : z * 2 < 2 ^ 32 = omega arith in
     let g : z * 2 ≡ 0 = sym (mod-eq_of_lt l) ∙ f ∙ ap (λ (n : ℕ). n * polynomial) t in
     omega arith
 
-turns-zero : (n z : ℕ) → z < 2 ^ 32 → turns n z ≡ 0 → z ≡ 0
+turns_zero : (n z : ℕ) → z < 2 ^ 32 → turns n z ≡ 0 → z ≡ 0
 unfolding turns
-turns-zero zero z h e = e
-turns-zero (suc n) z h e = turn-zero z h (turns-zero n (turn z) (turn-lt z) e)
+turns_zero zero z h e = e
+turns_zero (suc n) z h e = turn_zero z h (turns_zero n (turn z) (turn_lt z) e)
 
-four-unique : (m : List ℕ) (a b c d : ℕ) → a < 256 → b < 256 → c < 256 → d < 256
-    → crcOf (m ++ a ∷ b ∷ c ∷ d ∷ []) ≡ 0 → a ∷ b ∷ c ∷ d ∷ [] ≡ crcBytesOf m
-four-unique m a b c d ha hb hc hd e =
-    let z : ℕ = crcOf m in
+four_unique : (m : List ℕ) (a b c d : ℕ) → a < 256 → b < 256 → c < 256 → d < 256
+    → crc_of (m ++ a ∷ b ∷ c ∷ d ∷ []) ≡ 0 → a ∷ b ∷ c ∷ d ∷ [] ≡ crc_bytes_of m
+four_unique m a b c d ha hb hc hd e =
+    let z : ℕ = crc_of m in
     let w : ℕ = four a b c d in
-    let f : z ≡ w = xor-zero→eq z w (turns-zero 32 (bit_xor z w) (xor_lt 32 z w (crc-lt m) (omega arith)) (sym (four-behind m a b c d ha hb hc hd) ∙ e)) in
+    let f : z ≡ w = xor_zero→eq z w (turns_zero 32 (bit_xor z w) (xor_lt 32 z w (crc_lt m) (omega arith)) (sym (four_behind m a b c d ha hb hc hd) ∙ e)) in
     let ea : a ≡ z / 2 ^ 24 % 256 = omega arith in
     let eb : b ≡ z / 2 ^ 16 % 256 = omega arith in
     let ec : c ≡ z / 2 ^ 8 % 256 = omega arith in
     let ed : d ≡ z / 2 ^ 0 % 256 = omega arith in
     cc
 
-pub crc-unique : (m b : List ℕ) → length b ≡ 4 → ((k : ℕ) → get_or b k 0 < 256) → crcOf (m ++ b) ≡ 0 → b ≡ crcBytesOf m
-crc-unique m [] l h e = absurd (omega arith)
-crc-unique m (a ∷ []) l h e = absurd (omega arith)
-crc-unique m (a ∷ b ∷ []) l h e = absurd (omega arith)
-crc-unique m (a ∷ b ∷ c ∷ []) l h e = absurd (omega arith)
-crc-unique m (a ∷ b ∷ c ∷ d ∷ []) l h e = four-unique m a b c d (h 0) (h 1) (h 2) (h 3) e
-crc-unique m (a ∷ b ∷ c ∷ d ∷ x ∷ xs) l h e = absurd (omega arith)
+pub crc_unique : (m b : List ℕ) → length b ≡ 4 → ((k : ℕ) → get_or b k 0 < 256) → crc_of (m ++ b) ≡ 0 → b ≡ crc_bytes_of m
+crc_unique m [] l h e = absurd (omega arith)
+crc_unique m (a ∷ []) l h e = absurd (omega arith)
+crc_unique m (a ∷ b ∷ []) l h e = absurd (omega arith)
+crc_unique m (a ∷ b ∷ c ∷ []) l h e = absurd (omega arith)
+crc_unique m (a ∷ b ∷ c ∷ d ∷ []) l h e = four_unique m a b c d (h 0) (h 1) (h 2) (h 3) e
+crc_unique m (a ∷ b ∷ c ∷ d ∷ x ∷ xs) l h e = absurd (omega arith)
 
-pub crc-last : (s : List ℕ) (n : ℕ) → length s ≡ n + 4 → ((k : ℕ) → get_or s k 0 < 256) → crcOf s ≡ 0 → s ≡ take n s ++ crcBytesOf (take n s)
-crc-last s n l h e =
+pub crc_last : (s : List ℕ) (n : ℕ) → length s ≡ n + 4 → ((k : ℕ) → get_or s k 0 < 256) → crc_of s ≡ 0 → s ≡ take n s ++ crc_bytes_of (take n s)
+crc_last s n l h e =
     let overall : take n s ++ drop n s ≡ s = take-append-drop n s in
     sym overall
     ∙ ap (λ (x : List ℕ). take n s ++ x)
-    (crc-unique (take n s) (drop n s) (simp length-drop (omega arith)) (λ k. rw get_or-drop (h (n + k))) (ap crcOf overall ∙ e))
+    (crc_unique (take n s) (drop n s) (simp length-drop (omega arith)) (λ k. rw get_or-drop (h (n + k))) (ap crc_of overall ∙ e))
 
-pub crc-bytes : (m : List ℕ) (k : ℕ) → get_or (crcBytesOf m) k 0 < 256
-crc-bytes m = let c : ℕ = crcOf m in four-are-bytes (c / 2 ^ 24 % 256) (c / 2 ^ 16 % 256) (c / 2 ^ 8 % 256) (c / 2 ^ 0 % 256) (omega arith) (omega arith) (omega arith) (omega arith)
+pub crc_bytes_lem : (m : List ℕ) (k : ℕ) → get_or (crc_bytes_of m) k 0 < 256
+crc_bytes_lem m = let c : ℕ = crc_of m in four_are_bytes (c / 2 ^ 24 % 256) (c / 2 ^ 16 % 256) (c / 2 ^ 8 % 256) (c / 2 ^ 0 % 256) (omega arith) (omega arith) (omega arith) (omega arith)

@@ -12,34 +12,34 @@ use lib.Arith.{lt-one}
 use lib.Dec.{T, eqb, eqb→eq}
 use lib.Pow.{pow_pos, split, shr_lt}
 use lib.Bits.{bit_xor, xor_shr, xor_mod, xor_shifted}
-use Rattle.crc.proofs.Xor.{xor-shl, xor-swap}
+use Rattle.crc.proofs.Xor.{xor_shl, xor_swap}
 
 pub record Linear (f : ℕ → ℕ) : Type 0 where
   pub at : (a b : ℕ) → f (bit_xor a b) ≡ bit_xor (f a) (f b)
 
 -- ---- what is linear
 
-pub same-lin : Linear (λ x. x)
-same-lin = record { at = λ a b. refl }
+pub same_lin : Linear (λ x. x)
+same_lin = record { at = λ a b. refl }
 
-pub xor-lin : {f g : ℕ → ℕ} → Linear f → Linear g → Linear (λ x. bit_xor (f x) (g x))
-xor-lin {f} {g} p q = record { at = λ a b. ap₂ bit_xor (p.at a b) (q.at a b) ∙ xor-swap (f a) (f b) (g a) (g b) }
+pub xor_lin : {f g : ℕ → ℕ} → Linear f → Linear g → Linear (λ x. bit_xor (f x) (g x))
+xor_lin {f} {g} p q = record { at = λ a b. ap₂ bit_xor (p.at a b) (q.at a b) ∙ xor_swap (f a) (f b) (g a) (g b) }
 
-pub after-lin : {f g : ℕ → ℕ} → Linear f → Linear g → Linear (λ x. g (f x))
-after-lin {f} {g} p q = record { at = λ a b. ap g (p.at a b) ∙ q.at (f a) (f b) }
+pub after_lin : {f g : ℕ → ℕ} → Linear f → Linear g → Linear (λ x. g (f x))
+after_lin {f} {g} p q = record { at = λ a b. ap g (p.at a b) ∙ q.at (f a) (f b) }
 
-pub shr-lin : {f : ℕ → ℕ} → Linear f → (k : ℕ) → Linear (λ x. f x / 2 ^ k)
-shr-lin p k = after-lin {g = λ x. x / 2 ^ k} p (record { at = λ a b. xor_shr a b k })
+pub shr_lin : {f : ℕ → ℕ} → Linear f → (k : ℕ) → Linear (λ x. f x / 2 ^ k)
+shr_lin p k = after_lin {g = λ x. x / 2 ^ k} p (record { at = λ a b. xor_shr a b k })
 
-pub mod-lin : {f : ℕ → ℕ} → Linear f → (k : ℕ) → Linear (λ x. f x % 2 ^ k)
-mod-lin p k = after-lin {g = λ x. x % 2 ^ k} p (record { at = λ a b. xor_mod a b k })
+pub mod_lin : {f : ℕ → ℕ} → Linear f → (k : ℕ) → Linear (λ x. f x % 2 ^ k)
+mod_lin p k = after_lin {g = λ x. x % 2 ^ k} p (record { at = λ a b. xor_mod a b k })
 
-pub times-lin : {f : ℕ → ℕ} → Linear f → (k : ℕ) → Linear (λ x. f x * 2 ^ k)
-times-lin p k = after-lin {g = λ x. x * 2 ^ k} p (record { at = λ a b. xor-shl a b k })
+pub times_lin : {f : ℕ → ℕ} → Linear f → (k : ℕ) → Linear (λ x. f x * 2 ^ k)
+times_lin p k = after_lin {g = λ x. x * 2 ^ k} p (record { at = λ a b. xor_shl a b k })
 
 -- a shift to the left in w bits
-pub shl-lin : {f : ℕ → ℕ} → (w : ℕ) → Linear f → (k : ℕ) → Linear (λ x. f x * 2 ^ k % 2 ^ w)
-shl-lin w p k = mod-lin (times-lin p k) w
+pub shl_lin : {f : ℕ → ℕ} → (w : ℕ) → Linear f → (k : ℕ) → Linear (λ x. f x * 2 ^ k % 2 ^ w)
+shl_lin w p k = mod_lin (times_lin p k) w
 
 -- ---- a test that passes at every number below n
 

@@ -1,8 +1,8 @@
 // The CRC of a section (ISO/IEC 13818-1, Annex A) in two forms: bit by bit, to be read, and four bytes at a time, to be used.
 ghost use Rattle.std.specs.Prelude.{◌≡◌, ◌+◌, ◌*◌, ◌≤◌, ◌<◌, length};
 ghost use Rattle.crc_table.specs.Turns.{turns, reversed};
-ghost use Rattle.crc.specs.Crc.{allOnes, crcBit, crcBits, crcOf};
-ghost use Rattle.table.specs.Bits.{bitsOfNum};
+ghost use Rattle.crc.specs.Crc.{all_ones, crc_bit, crc_bits, crc_of};
+ghost use Rattle.table.specs.Bits.{bits_of_num};
 ghost use Rattle.crc.specs.Private.{number_at};
 
 use crc_table::first_byte::turned_56;
@@ -18,7 +18,7 @@ const POLYNOMIAL: u32 = 0x04C1_1DB7;
 const ALL_ONES: u32 = 0xFFFF_FFFF;
 
 fn take_bit(z: u32, bit: u32) -> u32
-    ensures { result ≡ crcBit z bit }
+    ensures { result ≡ crc_bit z bit }
 {
     if (z >> 31) ^ bit == 0 {
         z << 1
@@ -28,7 +28,7 @@ fn take_bit(z: u32, bit: u32) -> u32
 }
 
 fn take_byte(z: u32, byte: u8) -> u32
-    ensures { result ≡ crcBits z (bitsOfNum 8 byte) }
+    ensures { result ≡ crc_bits z (bits_of_num 8 byte) }
 {
     let mut r = z;
     let mut left: u32 = 8;
@@ -41,7 +41,7 @@ fn take_byte(z: u32, byte: u8) -> u32
 
 // The CRC of a message, bit by bit.
 pub fn crc32_plain(s: &[u8]) -> u32
-    ensures { result ≡ crcOf s.now }
+    ensures { result ≡ crc_of s.now }
 {
     let mut z = ALL_ONES;
     let mut i: usize = 0;
@@ -82,7 +82,7 @@ fn take_word(y: u32) -> u32
 // The register that so many bytes of zeros take to all ones.
 fn start(zeros: usize) -> u32
     requires { zeros < 4 }
-    ensures { turns (8 * zeros) (reversed result) ≡ allOnes }
+    ensures { turns (8 * zeros) (reversed result) ≡ all_ones }
 {
     match zeros {
         0 => 0xFFFF_FFFF,
@@ -94,7 +94,7 @@ fn start(zeros: usize) -> u32
 
 // The CRC of a message. Zeros in front, up to three, make it whole words; a message that has no word is shorter than any section.
 pub fn crc32(s: &[u8]) -> u32
-    ensures { result ≡ crcOf s.now }
+    ensures { result ≡ crc_of s.now }
 {
     if s.len() < 4 {
         return crc32_plain(s);

@@ -5,9 +5,9 @@ use Rattle.command.specs.declared.insert.InsertDetail.{InsertDetail}
 use Rattle.command.specs.declared.insert.SpliceDetail.{SpliceDetail}
 use Rattle.daterange_line.specs.declared.Cue.{Cue}
 use Rattle.daterange_line.specs.declared.Cue.TheVariants.{Cmd, Out, In}
-use Rattle.daterange_writer.specs.Writing.{lineMade}
+use Rattle.daterange_writer.specs.Writing.{line_made}
 use Rattle.names.specs.declared.flags.NetworkIndicator.{NetworkIndicator}
-use Rattle.section.specs.Section.{sectionOf, number_of}
+use Rattle.section.specs.Section.{section_of, number_of}
 use Rattle.section.specs.declared.SectionRead.{SectionRead}
 use Rattle.table.specs.Writing.{Made, refused}
 
@@ -22,17 +22,17 @@ inserted SpliceDetail.Cancel = Cmd
 inserted (SpliceDetail.Insert i) = leaving i.network_indicator
 
 -- "SCTE35-CMD for all else"
-unfoldable pub cueFor : SpliceCommand → Cue
-cueFor (SpliceCommand.SpliceInsert i) = inserted i.splice_detail
-cueFor SpliceCommand.SpliceNull = Cmd
-cueFor (SpliceCommand.TimeSignal t) = Cmd
-cueFor SpliceCommand.BandwidthReservation = Cmd
-cueFor (SpliceCommand.PrivateCommand p) = Cmd
+unfoldable pub cue_for : SpliceCommand → Cue
+cue_for (SpliceCommand.SpliceInsert i) = inserted i.splice_detail
+cue_for SpliceCommand.SpliceNull = Cmd
+cue_for (SpliceCommand.TimeSignal t) = Cmd
+cue_for SpliceCommand.BandwidthReservation = Cmd
+cue_for (SpliceCommand.PrivateCommand p) = Cmd
 
--- "1 to 11 for the section; 53 an ID or date holding a double quote, CR or LF; 36" (53 by `lineMade`, 36 by `answer_of`)
-abbrev pub madeFor : List ℕ → List ℕ → List ℕ → SectionRead → Made
-madeFor section id date (SectionRead.Is x) = lineMade section (cueFor x.command) id date
-madeFor section id date (SectionRead.Refused r) = refused (number_of (SectionRead.Refused r))
+-- "1 to 11 for the section; 53 an ID or date holding a double quote, CR or LF; 36" (53 by `line_made`, 36 by `answer_of`)
+abbrev pub made_for : List ℕ → List ℕ → List ℕ → SectionRead → Made
+made_for section id date (SectionRead.Is x) = line_made section (cue_for x.command) id date
+made_for section id date (SectionRead.Refused r) = refused (number_of (SectionRead.Refused r))
 
-unfoldable pub daterangeMade : List ℕ → List ℕ → List ℕ → Made
-daterangeMade section id date = madeFor section id date (sectionOf section)
+unfoldable pub daterange_made : List ℕ → List ℕ → List ℕ → Made
+daterange_made section id date = made_for section id date (section_of section)

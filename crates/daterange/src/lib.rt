@@ -1,7 +1,7 @@
 // A cue as an EXT-X-DATERANGE line (Q-1): the section is read, and its command chooses the name.
 ghost use Rattle.std.specs.Prelude.{◌≡◌};
-ghost use Rattle.daterange.specs.Choice.{leaving, inserted, cueFor, daterangeMade};
-ghost use Rattle.bit_stores.specs.Written.{answer_of, laterOf};
+ghost use Rattle.daterange.specs.Choice.{leaving, inserted, cue_for, daterange_made};
+ghost use Rattle.bit_stores.specs.Written.{answer_of, later_of};
 
 use bit_stores::Written;
 use command::SpliceCommand;
@@ -34,7 +34,7 @@ fn inserted(d: SpliceDetail) -> Cue
 
 // OUT for an insert, not cancelled, that leaves the network, IN for one that returns, CMD for all else.
 fn cue_for(c: SpliceCommand) -> Cue
-    ensures { result ≡ cueFor c }
+    ensures { result ≡ cue_for c }
 {
     match c {
         SpliceCommand::SpliceInsert(i) => {
@@ -50,8 +50,8 @@ fn cue_for(c: SpliceCommand) -> Cue
 
 // The line of a section, without a line end, from the target's first byte on; or a refusal: 1 to 11 for the section, 53, 36. A refused write changes no byte.
 pub fn write_daterange(section: &[u8], id: &[u8], date: &[u8], target: &mut [u8]) -> Written
-    ensures answer { result ≡ answer_of (daterangeMade section.now id.now date.now) target.old }
-    ensures bytes { target.new ≡ laterOf (daterangeMade section.now id.now date.now) target.old }
+    ensures answer { result ≡ answer_of (daterange_made section.now id.now date.now) target.old }
+    ensures bytes { target.new ≡ later_of (daterange_made section.now id.now date.now) target.old }
 {
     match read_section(section) {
         SectionRead::Is(s) => {

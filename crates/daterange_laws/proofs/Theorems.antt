@@ -18,181 +18,181 @@ use lib.ListN.{length, drop}
 use borrow.Author.Tests.{lt-ltb, le-leb, eq-eqb, eqb-true}
 use Rattle.table.specs.Bits.{pick, AllBytes}
 use Rattle.table.specs.Lent.{viewed}
-use Rattle.bit_stores.specs.Written.{answer_of, laterOf}
+use Rattle.bit_stores.specs.Written.{answer_of, later_of}
 use Rattle.table.proofs.Lists.{zero_one, below_all}
-use Rattle.attribute_list.specs.Grammar.{all, nameByte, quotedByte, plain_byte, hexByte, Attribute, plain, valid, Line}
-use Rattle.attribute_list.specs.Cutting.{same, attributesOf}
-use Rattle.daterange_line.specs.Reading.{cueName, known_of, hexadecimal, fitting, isId, isDate, isSignal, named, repeats, any, value_of, viewOf, cueOf, digitOf, octets, sectionOf, fault, fine, judge, sectionMade, read_by, read_of, readLater}
-use Rattle.daterange_writer.specs.Writing.{hexDigit, hexOf, attributesFor, line_of}
+use Rattle.attribute_list.specs.Grammar.{all, name_byte, quoted_byte, plain_byte, hex_byte, Attribute, plain, valid, Line}
+use Rattle.attribute_list.specs.Cutting.{same, attributes_of}
+use Rattle.daterange_line.specs.Reading.{cue_name, known_of, hexadecimal, fitting, is_id, is_date, is_signal, named, repeats, any, value_of, view_of, cue_of, digit_of, octets, section_of, fault, fine, judge, section_made, read_by, read_of, read_later}
+use Rattle.daterange_writer.specs.Writing.{hex_digit, hex_of, attributes_for, line_of}
 use Rattle.daterange_line.specs.declared.Cue.{Cue}
 use Rattle.daterange_line.specs.declared.Read.TheVariants.{Is}
 use Rattle.daterange_line.specs.declared.Cue.TheVariants.{Cmd, Out, In}
-use Rattle.attribute_list.proofs.Lists.{line-sound, line-exact}
-use Rattle.daterange_writer.proofs.Digits.{hex-length}
-use Rattle.daterange_line.proofs.Values.{stands-viewed, view-value, Fine, judged-fine}
-use Rattle.daterange_line.proofs.Answers.{text-behind}
+use Rattle.attribute_list.proofs.Lists.{line_sound, line_exact}
+use Rattle.daterange_writer.proofs.Digits.{hex_length}
+use Rattle.daterange_line.proofs.Values.{stands_viewed, view_value, Fine, judged_fine}
+use Rattle.daterange_line.proofs.Answers.{text_behind}
 
 -- ---- the list of a line
 
-pub cut-exactly : (line : List ℕ) (l : List Attribute) → (attributesOf line ≡ some l → Line l line) × (Line l line → attributesOf line ≡ some l)
-cut-exactly line l = (line-sound line l, line-exact line l)
+pub cut_exactly : (line : List ℕ) (l : List Attribute) → (attributes_of line ≡ some l → Line l line) × (Line l line → attributes_of line ≡ some l)
+cut_exactly line l = (line_sound line l, line_exact line l)
 
 pub one_list : (line : List ℕ) (l m : List Attribute) → Line l line → Line m line → l ≡ m
-one_list line l m h g = let e = line-exact line l h in let f = line-exact line m g in cc
+one_list line l m h g = let e = line_exact line l h in let f = line_exact line m g in cc
 
 -- a line without a list, or with a fault: 52; one without a fault that lacks something: 51; any other is read
-pub refused_none : (line : List ℕ) → ((l : List Attribute) → Line l line → ⊥) → judge (attributesOf line) ≡ fault 52
+pub refused_none : (line : List ℕ) → ((l : List Attribute) → Line l line → ⊥) → judge (attributes_of line) ≡ fault 52
 unfolding judge
-refused_none line h = go (attributesOf line) refl
+refused_none line h = go (attributes_of line) refl
   where
-    go : (o : Option (List Attribute)) → attributesOf line ≡ o → judge o ≡ fault 52
+    go : (o : Option (List Attribute)) → attributes_of line ≡ o → judge o ≡ fault 52
     go none e = refl
-    go (some l) e = absurd (h l (line-sound line l e))
+    go (some l) e = absurd (h l (line_sound line l e))
 
-pub judged-by : (line : List ℕ) (l : List Attribute) → Line l line
-    → judge (attributesOf line) ≡ pick (repeats l || not (all fitting l)) (fault 52) (pick (not (any isId l && (any isDate l && any isSignal l))) (fault 51) (fine l))
+pub judged_by : (line : List ℕ) (l : List Attribute) → Line l line
+    → judge (attributes_of line) ≡ pick (repeats l || not (all fitting l)) (fault 52) (pick (not (any is_id l && (any is_date l && any is_signal l))) (fault 51) (fine l))
 unfolding judge
-judged-by line l h = rw (line-exact line l h)
+judged_by line l h = rw (line_exact line l h)
 
 -- ---- views
 
-pub views-are-values : (line : List ℕ) (l : List Attribute) → judge (attributesOf line) ≡ fine l
-    → (viewed line (viewOf isId 17 l) ≡ value_of isId l) × (viewed line (viewOf isDate 17 l) ≡ value_of isDate l)
-views-are-values line l e =
-    let x : Fine (attributesOf line) l = judged-fine (attributesOf line) l e in
-    let h : Line l line = line-sound line l x.is in
-    let t = text-behind line l h in
-    (stands-viewed line _ _ (view-value isId line l 17 h.each t x.id), stands-viewed line _ _ (view-value isDate line l 17 h.each t x.date))
+pub views_are_values : (line : List ℕ) (l : List Attribute) → judge (attributes_of line) ≡ fine l
+    → (viewed line (view_of is_id 17 l) ≡ value_of is_id l) × (viewed line (view_of is_date 17 l) ≡ value_of is_date l)
+views_are_values line l e =
+    let x : Fine (attributes_of line) l = judged_fine (attributes_of line) l e in
+    let h : Line l line = line_sound line l x.is in
+    let t = text_behind line l h in
+    (stands_viewed line _ _ (view_value is_id line l 17 h.each t x.id), stands_viewed line _ _ (view_value is_date line l 17 h.each t x.date))
 
 -- ---- what is written
 
 -- the digits of a byte, by one test over all bytes
-pub digits-back : (b : ℕ) → b < 256 → digitOf (hexDigit (b / 16)) * 16 + digitOf (hexDigit (b % 16)) ≡ b
-digits-back b h = eqb_is (below_all 256 (λ n. eqb (digitOf (hexDigit (n / 16)) * 16 + digitOf (hexDigit (n % 16))) n) refl b h)
+pub digits_back : (b : ℕ) → b < 256 → digit_of (hex_digit (b / 16)) * 16 + digit_of (hex_digit (b % 16)) ≡ b
+digits_back b h = eqb_is (below_all 256 (λ n. eqb (digit_of (hex_digit (n / 16)) * 16 + digit_of (hex_digit (n % 16))) n) refl b h)
   where
-    eqb_is : eqb (digitOf (hexDigit (b / 16)) * 16 + digitOf (hexDigit (b % 16))) b ≡ true → digitOf (hexDigit (b / 16)) * 16 + digitOf (hexDigit (b % 16)) ≡ b
-    eqb_is e = eqb-true (digitOf (hexDigit (b / 16)) * 16 + digitOf (hexDigit (b % 16))) b e
+    eqb_is : eqb (digit_of (hex_digit (b / 16)) * 16 + digit_of (hex_digit (b % 16))) b ≡ true → digit_of (hex_digit (b / 16)) * 16 + digit_of (hex_digit (b % 16)) ≡ b
+    eqb_is e = eqb-true (digit_of (hex_digit (b / 16)) * 16 + digit_of (hex_digit (b % 16))) b e
 
-pub octets-back : (s : List ℕ) → AllBytes s → octets (hexOf s) ≡ s
-unfolding octets hexOf
-octets-back [] h = refl
-octets-back (b ∷ s) h = rw (digits-back b h.0, octets-back s h.1)
+pub octets_back : (s : List ℕ) → AllBytes s → octets (hex_of s) ≡ s
+unfolding octets hex_of
+octets_back [] h = refl
+octets_back (b ∷ s) h = rw (digits_back b h.0, octets_back s h.1)
 
-hex-all : (s : List ℕ) → AllBytes s → all hexByte (hexOf s) ≡ true
-unfolding all hexOf hexByte
-hex-all [] h = refl
-hex-all (b ∷ s) h = rw (high, low, hex-all s h.1)
+hex_all : (s : List ℕ) → AllBytes s → all hex_byte (hex_of s) ≡ true
+unfolding all hex_of hex_byte
+hex_all [] h = refl
+hex_all (b ∷ s) h = rw (high, low, hex_all s h.1)
   where
-    high : hexByte (hexDigit (b / 16)) ≡ true
-    high = below_all 256 (λ n. hexByte (hexDigit (n / 16))) refl b h.0
+    high : hex_byte (hex_digit (b / 16)) ≡ true
+    high = below_all 256 (λ n. hex_byte (hex_digit (n / 16))) refl b h.0
 
-    low : hexByte (hexDigit (b % 16)) ≡ true
-    low = below_all 256 (λ n. hexByte (hexDigit (n % 16))) refl b h.0
+    low : hex_byte (hex_digit (b % 16)) ≡ true
+    low = below_all 256 (λ n. hex_byte (hex_digit (n % 16))) refl b h.0
 
-hex-plain : (s : List ℕ) → AllBytes s → all plain_byte (hexOf s) ≡ true
-unfolding all hexOf plain_byte
-hex-plain [] h = refl
-hex-plain (b ∷ s) h = rw (high, low, hex-plain s h.1)
+hex_plain : (s : List ℕ) → AllBytes s → all plain_byte (hex_of s) ≡ true
+unfolding all hex_of plain_byte
+hex_plain [] h = refl
+hex_plain (b ∷ s) h = rw (high, low, hex_plain s h.1)
   where
-    high : plain_byte (hexDigit (b / 16)) ≡ true
-    high = below_all 256 (λ n. plain_byte (hexDigit (n / 16))) refl b h.0
+    high : plain_byte (hex_digit (b / 16)) ≡ true
+    high = below_all 256 (λ n. plain_byte (hex_digit (n / 16))) refl b h.0
 
-    low : plain_byte (hexDigit (b % 16)) ≡ true
-    low = below_all 256 (λ n. plain_byte (hexDigit (n % 16))) refl b h.0
+    low : plain_byte (hex_digit (b % 16)) ≡ true
+    low = below_all 256 (λ n. plain_byte (hex_digit (n % 16))) refl b h.0
 
-module _ (section : List ℕ) (cue : Cue) (id date : List ℕ) (i : all quotedByte id ≡ true) (d : all quotedByte date ≡ true) (bytes : AllBytes section) where
-  cue-valid : valid (record { name = cueName cue; value = plain (0x30 ∷ (0x78 ∷ hexOf section)) }) ≡ true
-  unfolding valid all nameByte plain_byte
-  cue-valid = go cue
+module _ (section : List ℕ) (cue : Cue) (id date : List ℕ) (i : all quoted_byte id ≡ true) (d : all quoted_byte date ≡ true) (bytes : AllBytes section) where
+  cue_valid : valid (record { name = cue_name cue; value = plain (0x30 ∷ (0x78 ∷ hex_of section)) }) ≡ true
+  unfolding valid all name_byte plain_byte
+  cue_valid = go cue
     where
-      go : (c : Cue) → valid (record { name = cueName c; value = plain (0x30 ∷ (0x78 ∷ hexOf section)) }) ≡ true
-      go Cmd = rw (lt-ltb 0 (suc (suc (length (hexOf section)))) (omega arith), hex-plain section bytes)
-      go Out = rw (lt-ltb 0 (suc (suc (length (hexOf section)))) (omega arith), hex-plain section bytes)
-      go In = rw (lt-ltb 0 (suc (suc (length (hexOf section)))) (omega arith), hex-plain section bytes)
+      go : (c : Cue) → valid (record { name = cue_name c; value = plain (0x30 ∷ (0x78 ∷ hex_of section)) }) ≡ true
+      go Cmd = rw (lt-ltb 0 (suc (suc (length (hex_of section)))) (omega arith), hex_plain section bytes)
+      go Out = rw (lt-ltb 0 (suc (suc (length (hex_of section)))) (omega arith), hex_plain section bytes)
+      go In = rw (lt-ltb 0 (suc (suc (length (hex_of section)))) (omega arith), hex_plain section bytes)
 
-  pub written-line : Line (attributesFor section cue id date) (line_of section cue id date)
-  unfolding line_of valid all nameByte
-  written-line = record { some = omega arith; each = rw (i, d, cue-valid); text = refl }
+  pub written_line : Line (attributes_for section cue id date) (line_of section cue id date)
+  unfolding line_of valid all name_byte
+  written_line = record { some = omega arith; each = rw (i, d, cue_valid); text = refl }
 
   module _ (some_bytes : 0 < length section) where
-    hexadecimal-is : hexadecimal (0x30 ∷ (0x78 ∷ hexOf section)) ≡ true
+    hexadecimal_is : hexadecimal (0x30 ∷ (0x78 ∷ hex_of section)) ≡ true
     unfolding hexadecimal
-    hexadecimal-is =
-        let n = length (hexOf section) in
-        let m : n ≡ length section * 2 = hex-length section in
-        rw (lt-ltb 2 (suc (suc n)) (omega arith), eq-eqb (suc (suc n) % 2) 0 (omega arith), hex-all section bytes)
+    hexadecimal_is =
+        let n = length (hex_of section) in
+        let m : n ≡ length section * 2 = hex_length section in
+        rw (lt-ltb 2 (suc (suc n)) (omega arith), eq-eqb (suc (suc n) % 2) 0 (omega arith), hex_all section bytes)
 
     -- what is found in a written line
     pub record Back : Type 0 where
-      pub fine-line : judge (attributesOf (line_of section cue id date)) ≡ fine (attributesFor section cue id date)
-      pub same_id : value_of isId (attributesFor section cue id date) ≡ id
-      pub same-date : value_of isDate (attributesFor section cue id date) ≡ date
-      pub same-cue : cueOf (attributesFor section cue id date) ≡ cue
-      pub same-section : sectionOf (attributesFor section cue id date) ≡ section
+      pub fine_line : judge (attributes_of (line_of section cue id date)) ≡ fine (attributes_for section cue id date)
+      pub same_id : value_of is_id (attributes_for section cue id date) ≡ id
+      pub same_date : value_of is_date (attributes_for section cue id date) ≡ date
+      pub same_cue : cue_of (attributes_for section cue id date) ≡ cue
+      pub same_section : section_of (attributes_for section cue id date) ≡ section
 
-    pub written-reads-back : Back
-    unfolding judge repeats named all any known_of same value_of cueOf
-    written-reads-back =
+    pub written_reads_back : Back
+    unfolding judge repeats named all any known_of same value_of cue_of
+    written_reads_back =
         record {
-          fine-line = ap judge (line-exact (line_of section cue id date) (attributesFor section cue id date) written-line) ∙ judged cue;
-          same_id = at-id cue;
-          same-date = at-date cue;
-          same-cue = at-cue cue;
-          same-section = at-section cue ∙ octets-back section bytes;
+          fine_line = ap judge (line_exact (line_of section cue id date) (attributes_for section cue id date) written_line) ∙ judged cue;
+          same_id = at_id cue;
+          same_date = at_date cue;
+          same_cue = at_cue cue;
+          same_section = at_section cue ∙ octets_back section bytes;
         }
       where
-        judged : (c : Cue) → judge (some (attributesFor section c id date)) ≡ fine (attributesFor section c id date)
-        judged Cmd = rw hexadecimal-is
-        judged Out = rw hexadecimal-is
-        judged In = rw hexadecimal-is
+        judged : (c : Cue) → judge (some (attributes_for section c id date)) ≡ fine (attributes_for section c id date)
+        judged Cmd = rw hexadecimal_is
+        judged Out = rw hexadecimal_is
+        judged In = rw hexadecimal_is
 
-        at-id : (c : Cue) → value_of isId (attributesFor section c id date) ≡ id
-        at-id c = refl
+        at_id : (c : Cue) → value_of is_id (attributes_for section c id date) ≡ id
+        at_id c = refl
 
-        at-date : (c : Cue) → value_of isDate (attributesFor section c id date) ≡ date
-        at-date c = refl
+        at_date : (c : Cue) → value_of is_date (attributes_for section c id date) ≡ date
+        at_date c = refl
 
-        at-cue : (c : Cue) → cueOf (attributesFor section c id date) ≡ c
-        at-cue Cmd = refl
-        at-cue Out = refl
-        at-cue In = refl
+        at_cue : (c : Cue) → cue_of (attributes_for section c id date) ≡ c
+        at_cue Cmd = refl
+        at_cue Out = refl
+        at_cue In = refl
 
-        at-section : (c : Cue) → sectionOf (attributesFor section c id date) ≡ octets (hexOf section)
-        at-section Cmd = refl
-        at-section Out = refl
-        at-section In = refl
+        at_section : (c : Cue) → section_of (attributes_for section c id date) ≡ octets (hex_of section)
+        at_section Cmd = refl
+        at_section Out = refl
+        at_section In = refl
 
     -- the reader on the written line: the section stands in the target, and the two views are of the ID and the date
-    pub written-then-read : (target : List ℕ) → length section ≤ length target
+    pub written_then_read : (target : List ℕ) → length section ≤ length target
         → (read_of (line_of section cue id date) target
-        ≡ Is (record { id = viewOf isId 17 (attributesFor section cue id date); date = viewOf isDate 17 (attributesFor section cue id date); cue = cue; len = length section }))
-        × (readLater (line_of section cue id date) target ≡ section ++ drop (length section) target)
-        × (viewed (line_of section cue id date) (viewOf isId 17 (attributesFor section cue id date)) ≡ id)
-        × (viewed (line_of section cue id date) (viewOf isDate 17 (attributesFor section cue id date)) ≡ date)
-    unfolding read_by sectionMade answer_of laterOf
-    written-then-read target h =
-        let w = written-reads-back in
-        let v = views-are-values (line_of section cue id date) (attributesFor section cue id date) w.fine-line in (
-          rw (w.fine-line, w.same-section, le-leb (length section) (length target) h, w.same-cue),
-          rw (w.fine-line, w.same-section, le-leb (length section) (length target) h),
+        ≡ Is (record { id = view_of is_id 17 (attributes_for section cue id date); date = view_of is_date 17 (attributes_for section cue id date); cue = cue; len = length section }))
+        × (read_later (line_of section cue id date) target ≡ section ++ drop (length section) target)
+        × (viewed (line_of section cue id date) (view_of is_id 17 (attributes_for section cue id date)) ≡ id)
+        × (viewed (line_of section cue id date) (view_of is_date 17 (attributes_for section cue id date)) ≡ date)
+    unfolding read_by section_made answer_of later_of
+    written_then_read target h =
+        let w = written_reads_back in
+        let v = views_are_values (line_of section cue id date) (attributes_for section cue id date) w.fine_line in (
+          rw (w.fine_line, w.same_section, le-leb (length section) (length target) h, w.same_cue),
+          rw (w.fine_line, w.same_section, le-leb (length section) (length target) h),
           v.0 ∙ w.same_id,
-          v.1 ∙ w.same-date,
+          v.1 ∙ w.same_date,
         )
 
 -- ---- 52 exactly
 
-not-51 : (l : List Attribute) (f m : Bool) → pick f (fault 52) (pick m (fault 51) (fine l)) ≡ fault 52 → f ≡ true
-not-51 l true m e = refl
-not-51 l false true e = let z : ◌≡◌ {A = ℕ} 51 52 = cc in absurd (omega arith)
-not-51 l false false e = zero_one cc
+not_51 : (l : List Attribute) (f m : Bool) → pick f (fault 52) (pick m (fault 51) (fine l)) ≡ fault 52 → f ≡ true
+not_51 l true m e = refl
+not_51 l false true e = let z : ◌≡◌ {A = ℕ} 51 52 = cc in absurd (omega arith)
+not_51 l false false e = zero_one cc
 
 -- a line is refused with 52 exactly where every list of it (there is at most one) has a repeated name, or a value of another kind than its name asks for
-pub refused-52 : (line : List ℕ)
-    → (judge (attributesOf line) ≡ fault 52 → (l : List Attribute) → Line l line → repeats l || not (all fitting l) ≡ true)
-    × (((l : List Attribute) → Line l line → repeats l || not (all fitting l) ≡ true) → judge (attributesOf line) ≡ fault 52)
+pub refused_52 : (line : List ℕ)
+    → (judge (attributes_of line) ≡ fault 52 → (l : List Attribute) → Line l line → repeats l || not (all fitting l) ≡ true)
+    × (((l : List Attribute) → Line l line → repeats l || not (all fitting l) ≡ true) → judge (attributes_of line) ≡ fault 52)
 unfolding judge
-refused-52 line = (λ e l h. not-51 l (repeats l || not (all fitting l)) (not (any isId l && (any isDate l && any isSignal l))) (sym (judged-by line l h) ∙ e), λ h. go h (attributesOf line) refl)
+refused_52 line = (λ e l h. not_51 l (repeats l || not (all fitting l)) (not (any is_id l && (any is_date l && any is_signal l))) (sym (judged_by line l h) ∙ e), λ h. go h (attributes_of line) refl)
   where
-    go : ((l : List Attribute) → Line l line → repeats l || not (all fitting l) ≡ true) → (o : Option (List Attribute)) → attributesOf line ≡ o → judge o ≡ fault 52
+    go : ((l : List Attribute) → Line l line → repeats l || not (all fitting l) ≡ true) → (o : Option (List Attribute)) → attributes_of line ≡ o → judge o ≡ fault 52
     go h none e = refl
-    go h (some l) e = rw (h l (line-sound line l e))
+    go h (some l) e = rw (h l (line_sound line l e))

@@ -10,29 +10,29 @@ use lib.Dec.{eqb}
 use lib.ListN.{length, take, drop, length-append}
 use lib.Seq.{drop-drop}
 use borrow.Author.Tests.{eq-eqb, ne_eqb, eqb-true, eqb-false, lt-ltb}
-use Rattle.table.proofs.Lists.{and-true}
+use Rattle.table.proofs.Lists.{and_true}
 use Rattle.attribute_list.specs.Grammar.{all, Attribute, valid, text_of}
 use Rattle.attribute_list.specs.Cutting.{same, cut_of, end_of}
 use Rattle.daterange_line.specs.Reading.{named, repeats}
 use Rattle.daterange_line.specs.Private.{earlier}
 use Rattle.attribute_list.specs.declared.cutting.Cut.TheVariants.{Is}
-use Rattle.attribute_list.proofs.Completes.{Exact, cut-exact, isQuoted, sized}
-use Rattle.daterange_line.proofs.Searches.{earlier-end}
+use Rattle.attribute_list.proofs.Completes.{Exact, cut_exact, is_quoted, sized}
+use Rattle.daterange_line.proofs.Searches.{earlier_end}
 
 -- the text of attributes that each have a comma behind them
 unfoldable pub followed : List Attribute → List ℕ
 followed [] = []
 followed (a ∷ l) = text_of a ++ (0x2C ∷ followed l)
 
-pub followed-length : (l : List Attribute) → length l ≤ length (followed l)
+pub followed_length : (l : List Attribute) → length l ≤ length (followed l)
 unfolding followed
-followed-length [] = omega arith
-followed-length (a ∷ l) = omega (arith, length-append (text_of a) (0x2C ∷ followed l), followed-length l)
+followed_length [] = omega arith
+followed_length (a ∷ l) = omega (arith, length-append (text_of a) (0x2C ∷ followed l), followed_length l)
 
-pub followed-more : (l : List Attribute) (a : Attribute) → followed (l ++ (a ∷ [])) ≡ followed l ++ (text_of a ++ (0x2C ∷ []))
+pub followed_more : (l : List Attribute) (a : Attribute) → followed (l ++ (a ∷ [])) ≡ followed l ++ (text_of a ++ (0x2C ∷ []))
 unfolding followed
-followed-more [] a = refl
-followed-more (b ∷ l) a = rw (followed-more l a) (sym (append_assoc (text_of b) (0x2C ∷ followed l) (text_of a ++ (0x2C ∷ []))))
+followed_more [] a = refl
+followed_more (b ∷ l) a = rw (followed_more l a) (sym (append_assoc (text_of b) (0x2C ∷ followed l) (text_of a ++ (0x2C ∷ []))))
 
 -- these attributes stand before a place
 pub record Before (line : List ℕ) (from at : ℕ) (l : List Attribute) : Type 0 where
@@ -41,22 +41,22 @@ pub record Before (line : List ℕ) (from at : ℕ) (l : List Attribute) : Type 
   pub place : at ≡ from + length (followed l)
 
 module _ (line : List ℕ) (end : ℕ) (name : List ℕ) where
-  earlier-cut : (m : ℕ) (at n : ℕ) (q : Bool) (k : ℕ) → at < end → cut_of (drop at line) ≡ Is n q k
+  earlier_cut : (m : ℕ) (at n : ℕ) (q : Bool) (k : ℕ) → at < end → cut_of (drop at line) ≡ Is n q k
       → earlier (suc m) line end name at ≡ same (take n (drop at line)) name || earlier m line end name (at + (end_of n q k + 1))
   unfolding earlier
-  earlier-cut m at n q k h e = rw (lt-ltb at end h, e)
+  earlier_cut m at n q k h e = rw (lt-ltb at end h, e)
 
-  pub earlier-is : (l : List Attribute) (m at : ℕ) → length l ≤ m → Before line at end l → earlier m line end name at ≡ named name l
+  pub earlier_is : (l : List Attribute) (m at : ℕ) → length l ≤ m → Before line at end l → earlier m line end name at ≡ named name l
   unfolding followed named all
-  earlier-is [] m at h b = earlier-end line end name at m (omega (arith, b.place))
-  earlier-is (a ∷ l) zero at h b = absurd (omega arith)
-  earlier-is (a ∷ l) (suc m) at h b =
-      let both = and-true (valid a) (all valid l) b.each in
+  earlier_is [] m at h b = earlier_end line end name at m (omega (arith, b.place))
+  earlier_is (a ∷ l) zero at h b = absurd (omega arith)
+  earlier_is (a ∷ l) (suc m) at h b =
+      let both = and_true (valid a) (all valid l) b.each in
       let t = followed l ++ drop end line in
       let n = length a.name in
-      let q = isQuoted a.value in
+      let q = is_quoted a.value in
       let k = sized a.value in
-      let x : Exact a (0x2C ∷ t) = cut-exact a (0x2C ∷ t) both.0 refl in
+      let x : Exact a (0x2C ∷ t) = cut_exact a (0x2C ∷ t) both.0 refl in
       let s : drop at line ≡ text_of a ++ (0x2C ∷ t) = b.text ∙ append_assoc (text_of a) (0x2C ∷ followed l) (drop end line) in
       let c : cut_of (drop at line) ≡ Is n q k = ap cut_of s ∙ x.cut in
       let z : take n (drop at line) ≡ a.name = ap (take n) s ∙ ap (λ (y : Attribute). y.name) x.is in
@@ -64,7 +64,7 @@ module _ (line : List ℕ) (end : ℕ) (name : List ℕ) where
       sym (drop-drop (end_of n q k + 1) at line) ∙ ap (drop (end_of n q k + 1)) s ∙ sym (drop-drop 1 (end_of n q k) (text_of a ++ (0x2C ∷ t))) ∙ ap (drop 1) x.rest in
       let p : end ≡ at + (end_of n q k + 1) + length (followed l) = omega (arith, b.place, length-append (text_of a) (0x2C ∷ followed l), x.size) in
       let g : at < end = omega arith in
-      earlier-cut m at n q k g c ∙ rw (z, earlier-is l m (at + (end_of n q k + 1)) (omega arith) (record { each = both.1; text = d; place = p }))
+      earlier_cut m at n q k g c ∙ rw (z, earlier_is l m (at + (end_of n q k + 1)) (omega arith) (record { each = both.1; text = d; place = p }))
 
 -- ---- repeated names
 
@@ -75,12 +75,12 @@ eqb_comm x y = go (eqb x y) refl
     go true e = sym (eq-eqb y x (sym (eqb-true x y e)))
     go false e = sym (ne_eqb y x (λ f. eqb-false x y e (sym f)))
 
-pub same-comm : (a b : List ℕ) → same a b ≡ same b a
+pub same_comm : (a b : List ℕ) → same a b ≡ same b a
 unfolding same
-same-comm [] [] = refl
-same-comm [] (y ∷ b) = refl
-same-comm (x ∷ a) [] = refl
-same-comm (x ∷ a) (y ∷ b) = rw (eqb_comm x y, same-comm a b)
+same_comm [] [] = refl
+same_comm [] (y ∷ b) = refl
+same_comm (x ∷ a) [] = refl
+same_comm (x ∷ a) (y ∷ b) = rw (eqb_comm x y, same_comm a b)
 
 or_swap : (n s c m : Bool) → (n || s) || (c || m) ≡ (n || c) || (s || m)
 or_swap true s c m = refl
@@ -98,34 +98,34 @@ named_more name [] a = or-false (same a.name name)
 named_more name (b ∷ l) a = rw (named_more name l a) (or_assoc (same b.name name) (named name l) (same a.name name))
 
 -- a name that stands before it already
-unfoldable pub repeatsAfter : List Attribute → List Attribute → Bool
-repeatsAfter seen [] = false
-repeatsAfter seen (a ∷ l) = named a.name seen || repeatsAfter (seen ++ (a ∷ [])) l
+unfoldable pub repeats_after : List Attribute → List Attribute → Bool
+repeats_after seen [] = false
+repeats_after seen (a ∷ l) = named a.name seen || repeats_after (seen ++ (a ∷ [])) l
 
 unfoldable clash : List Attribute → List Attribute → Bool
 clash seen [] = false
 clash seen (a ∷ l) = named a.name seen || clash seen l
 
-clash-none : (l : List Attribute) → clash [] l ≡ false
+clash_none : (l : List Attribute) → clash [] l ≡ false
 unfolding clash named
-clash-none [] = refl
-clash-none (a ∷ l) = clash-none l
+clash_none [] = refl
+clash_none (a ∷ l) = clash_none l
 
-clash-more : (seen : List Attribute) (a : Attribute) (l : List Attribute) → clash (seen ++ (a ∷ [])) l ≡ clash seen l || named a.name l
+clash_more : (seen : List Attribute) (a : Attribute) (l : List Attribute) → clash (seen ++ (a ∷ [])) l ≡ clash seen l || named a.name l
 unfolding clash named
-clash-more seen a [] = refl
-clash-more seen a (b ∷ l) =
-    rw (named_more b.name seen a, clash-more seen a l, same-comm a.name b.name) (or_swap (named b.name seen) (same b.name a.name) (clash seen l) (named a.name l))
+clash_more seen a [] = refl
+clash_more seen a (b ∷ l) =
+    rw (named_more b.name seen a, clash_more seen a l, same_comm a.name b.name) (or_swap (named b.name seen) (same b.name a.name) (clash seen l) (named a.name l))
 
-after-clash : (seen l : List Attribute) → repeatsAfter seen l ≡ clash seen l || repeats l
-unfolding repeatsAfter clash repeats
-after-clash seen [] = refl
-after-clash seen (a ∷ l) = rw (after-clash (seen ++ (a ∷ [])) l, clash-more seen a l) (go (named a.name seen) (clash seen l) (named a.name l) (repeats l))
+after_clash : (seen l : List Attribute) → repeats_after seen l ≡ clash seen l || repeats l
+unfolding repeats_after clash repeats
+after_clash seen [] = refl
+after_clash seen (a ∷ l) = rw (after_clash (seen ++ (a ∷ [])) l, clash_more seen a l) (go (named a.name seen) (clash seen l) (named a.name l) (repeats l))
   where
     go : (n c m r : Bool) → n || ((c || m) || r) ≡ (n || c) || (m || r)
     go true c m r = refl
     go false true m r = refl
     go false false m r = refl
 
-pub repeats-after : (l : List Attribute) → repeatsAfter [] l ≡ repeats l
-repeats-after l = after-clash [] l ∙ rw (clash-none l)
+pub repeats_after_lem : (l : List Attribute) → repeats_after [] l ≡ repeats l
+repeats_after_lem l = after_clash [] l ∙ rw (clash_none l)

@@ -1,11 +1,11 @@
 // Hexadecimal sequences: tested in one pass and decoded in another, since a line that is refused changes no byte.
 ghost use Rattle.std.specs.Prelude.{true, ◌&&◌, ◌||◌, ◌≡◌, ◌+◌, ◌*◌, ◌/◌, ◌%◌, ◌≤◌, ◌<◌, eqb, length};
-ghost use Rattle.attribute_list.specs.Grammar.{all, hexByte};
+ghost use Rattle.attribute_list.specs.Grammar.{all, hex_byte};
 ghost use Rattle.table.specs.Lent.{stored};
-ghost use Rattle.daterange_line.specs.Reading.{hexadecimal, digitOf, octets};
+ghost use Rattle.daterange_line.specs.Reading.{hexadecimal, digit_of, octets};
 
 fn in_hex(b: u8) -> bool
-    ensures { result ≡ hexByte b }
+    ensures { result ≡ hex_byte b }
 {
     if 0x41 <= b {
         return b <= 0x46;
@@ -24,7 +24,7 @@ fn both(a: bool, b: bool) -> bool
 
 // Whether all are digits. The loop goes on behind one that is not: so it takes many bytes a turn when it is compiled.
 fn are_digits(s: &[u8]) -> bool
-    ensures { result ≡ all hexByte s.now }
+    ensures { result ≡ all hex_byte s.now }
 {
     let mut good = true;
     let mut i: usize = 0;
@@ -67,22 +67,22 @@ pub(crate) fn is_hexadecimal(value: &[u8]) -> bool
 
 // Without a branch: the low half of a capital is 1 to 6, and its high half tells it from a figure.
 fn digit(d: u8) -> u8
-    requires { hexByte d ≡ true }
-    ensures { (result ≡ digitOf d) × (result < 16) }
+    requires { hex_byte d ≡ true }
+    ensures { (result ≡ digit_of d) × (result < 16) }
 {
     d % 16 + d / 64 * 9
 }
 
 fn pair(x: u8, y: u8) -> u8
-    requires { (hexByte x ≡ true) × (hexByte y ≡ true) }
-    ensures { result ≡ digitOf x * 16 + digitOf y }
+    requires { (hex_byte x ≡ true) × (hex_byte y ≡ true) }
+    ensures { result ≡ digit_of x * 16 + digit_of y }
 {
     digit(x) * 16 + digit(y)
 }
 
 // Two digits a byte, from the target's first byte on.
 pub(crate) fn decode(target: &mut [u8], digits: &[u8])
-    requires { (all hexByte digits.now ≡ true) × (length digits.now % 2 ≡ 0) × (length digits.now / 2 ≤ length target.old) }
+    requires { (all hex_byte digits.now ≡ true) × (length digits.now % 2 ≡ 0) × (length digits.now / 2 ≤ length target.old) }
     ensures { target.new ≡ stored target.old 0 (octets digits.now) }
 {
     let n = digits.len() / 2;

@@ -1,6 +1,6 @@
 // The attributes before a place of a line.
 ghost use Rattle.std.specs.Prelude.{◌≡◌, ◌^◌, ◌<◌, length};
-ghost use Rattle.attribute_list.specs.Cutting.{valueFrom, end_of};
+ghost use Rattle.attribute_list.specs.Cutting.{value_from, end_of};
 ghost use Rattle.daterange_line.specs.Private.{earlier};
 
 use attribute_list::bytes::same_bytes;
@@ -9,7 +9,7 @@ use attribute_list::cutting::{Cut, cut_at};
 // Where an attribute's value begins: behind the name, `=` and a quote.
 pub(crate) fn value_from(name: usize, quoted: bool) -> usize
     requires { name < 2 ^ 63 }
-    ensures { result ≡ valueFrom name quoted }
+    ensures { result ≡ value_from name quoted }
 {
     if quoted { name + 2 } else { name + 1 }
 }

@@ -1,6 +1,6 @@
 // EXT-X-DATERANGE lines of RFC 8216 that carry a cue, read (Q-1). A line has no line end.
 ghost use Rattle.std.specs.Prelude.{◌≡◌};
-ghost use Rattle.daterange_line.specs.Reading.{read_of, readLater};
+ghost use Rattle.daterange_line.specs.Reading.{read_of, read_later};
 
 use crate::digits::decode;
 use crate::looking::{Look, find_cue};
@@ -46,7 +46,7 @@ pub enum Read {
 // Reads a line that has no line end. The section's bytes go into the target and are not judged; a refusal changes no byte of it.
 pub fn read_line(line: &[u8], target: &mut [u8]) -> Read
     ensures answer { result ≡ read_of line.now target.old }
-    ensures bytes { target.new ≡ readLater line.now target.old }
+    ensures bytes { target.new ≡ read_later line.now target.old }
 {
     match find_cue(line) {
         Look::Refused(n) => Read::Refused(n),

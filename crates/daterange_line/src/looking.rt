@@ -1,7 +1,7 @@
 // What the attributes of a line say, one after the other.
 ghost use Rattle.std.specs.Prelude.{◌≡◌};
-ghost use Rattle.attribute_list.specs.Cutting.{valueIn};
-ghost use Rattle.daterange_line.specs.Reading.{known_of, fitsFor};
+ghost use Rattle.attribute_list.specs.Cutting.{value_in};
+ghost use Rattle.daterange_line.specs.Reading.{known_of, fits_for};
 ghost use Rattle.daterange_line.specs.Private.{or_else, noted, nothing, turn_of, ended, look_of};
 
 use crate::digits::is_hexadecimal;
@@ -57,7 +57,7 @@ fn known_as(name: &[u8]) -> Known
 
 // Whether a value is of the kind that its name asks for.
 fn is_fit(word: Known, quoted: bool, value: &[u8]) -> bool
-    ensures { result ≡ fitsFor word (valueIn quoted value.now) }
+    ensures { result ≡ fits_for word (value_in quoted value.now) }
 {
     match word {
         Known::Id => quoted,

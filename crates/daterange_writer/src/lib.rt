@@ -1,7 +1,7 @@
 // EXT-X-DATERANGE lines of RFC 8216, written (Q-1). The section is any bytes here; `daterange` reads it first, and chooses the name.
 ghost use Rattle.std.specs.Prelude.{◌≡◌};
-ghost use Rattle.bit_stores.specs.Written.{answer_of, laterOf};
-ghost use Rattle.daterange_writer.specs.Writing.{lineMade};
+ghost use Rattle.bit_stores.specs.Written.{answer_of, later_of};
+ghost use Rattle.daterange_writer.specs.Writing.{line_made};
 
 use crate::storing::store_line;
 use attribute_list::bytes::{Class, past};
@@ -13,8 +13,8 @@ mod storing;
 
 // Writes a section's line: 53 for an ID or date that a quoted string can't hold, 36 for too little room. A refused write changes no byte.
 pub fn write_line(section: &[u8], cue: Cue, id: &[u8], date: &[u8], target: &mut [u8]) -> Written
-    ensures answer { result ≡ answer_of (lineMade section.now cue id.now date.now) target.old }
-    ensures bytes { target.new ≡ laterOf (lineMade section.now cue id.now date.now) target.old }
+    ensures answer { result ≡ answer_of (line_made section.now cue id.now date.now) target.old }
+    ensures bytes { target.new ≡ later_of (line_made section.now cue id.now date.now) target.old }
 {
     if past(id, 0, Class::Quoted) < id.len() {
         return Written::Refused(53);

@@ -2,8 +2,8 @@
 ghost use Rattle.std.specs.Prelude.{◌≡◌, ◌+◌, ◌*◌, ◌≤◌, leb, length};
 ghost use Rattle.table.specs.Lent.{stored};
 ghost use Rattle.table.specs.Writing.{made};
-ghost use Rattle.bit_stores.specs.Written.{answer_of, laterOf};
-ghost use Rattle.daterange_writer.specs.Writing.{hexOf};
+ghost use Rattle.bit_stores.specs.Written.{answer_of, later_of};
+ghost use Rattle.daterange_writer.specs.Writing.{hex_of};
 ghost use Rattle.daterange_writer.specs.Pieces.{pieces};
 
 use crate::encoding::encode;
@@ -34,7 +34,7 @@ fn has_room(room: usize, id: usize, date: usize, word: usize, section: usize) ->
 
 fn put_line(section: &[u8], word: &[u8], id: &[u8], date: &[u8], target: &mut [u8])
     requires { 35 + length id.now + length date.now + length word.now + length section.now * 2 ≤ length target.old }
-    ensures { target.new ≡ stored target.old 0 (pieces id.now date.now word.now (hexOf section.now)) }
+    ensures { target.new ≡ stored target.old 0 (pieces id.now date.now word.now (hex_of section.now)) }
 {
     let middle = 21 + id.len();
     let from = middle + 14;
@@ -55,7 +55,7 @@ pub(crate) fn store_line(
     date: &[u8],
     target: &mut [u8],
 ) -> Written
-    ensures { (result ≡ answer_of (made (pieces id.now date.now word.now (hexOf section.now))) target.old) × (target.new ≡ laterOf (made (pieces id.now date.now word.now (hexOf section.now))) target.old) }
+    ensures { (result ≡ answer_of (made (pieces id.now date.now word.now (hex_of section.now))) target.old) × (target.new ≡ later_of (made (pieces id.now date.now word.now (hex_of section.now))) target.old) }
 {
     if !has_room(
         target.len(),

@@ -4,13 +4,13 @@ use Rattle.table.specs.Bits.{pick, bits_of}
 use Rattle.table.specs.Lent.{no_view, shifted, viewed}
 use Rattle.table.specs.Table.{Answer, got, short, parse}
 use Rattle.table.specs.declared.View.{View}
-use Rattle.upid.specs.Upid.{checkOf}
+use Rattle.upid.specs.Upid.{check_of}
 use Rattle.upid.specs.declared.Refusal.{Refusal}
 use Rattle.upid.specs.declared.Refusal.TheVariants.{InputTooLong, NotEnoughData, UpidLengthTypeMismatch, InvalidUpidContent, InvalidUpidLength}
 use Rattle.upid.specs.declared.UpidRead.{UpidRead}
-use Rattle.descriptor.specs.Plain.{avail, dtmf, time, privateBytes}
-use Rattle.descriptor.specs.Segmentation.{ListedFront, Head, head, front, back, activeFrom}
-use Rattle.descriptor.specs.Views.{withoutView}
+use Rattle.descriptor.specs.Plain.{avail, dtmf, time, private_bytes}
+use Rattle.descriptor.specs.Segmentation.{ListedFront, Head, head, front, back, active_from}
+use Rattle.descriptor.specs.Views.{without_view}
 use Rattle.descriptor.specs.declared.Descriptor.{Descriptor}
 use Rattle.descriptor.specs.declared.Descriptor.TheVariants.{Avail, Dtmf, Segmentation, Time, Reserved}
 use Rattle.descriptor.specs.declared.DescriptorRead.{DescriptorRead}
@@ -30,53 +30,53 @@ short expected actual and_then k = Refused (NotEnoughData expected actual)
 abbrev pub at_least : ℕ → List ℕ → DescriptorRead → DescriptorRead
 at_least n s r = pick (ltb (length s) n) (Refused (NotEnoughData n (length s))) r
 
-unfoldable pub availOf : List ℕ → DescriptorRead
-availOf s = at_least 4 s (parse avail (bits_of s) 0 and_then λ x at. Is (Avail x))
+unfoldable pub avail_of : List ℕ → DescriptorRead
+avail_of s = at_least 4 s (parse avail (bits_of s) 0 and_then λ x at. Is (Avail x))
 
-unfoldable pub dtmfOf : List ℕ → DescriptorRead
-dtmfOf s = parse dtmf (bits_of s) 0 and_then λ x at. Is (Dtmf x)
+unfoldable pub dtmf_of : List ℕ → DescriptorRead
+dtmf_of s = parse dtmf (bits_of s) 0 and_then λ x at. Is (Dtmf x)
 
-unfoldable pub timeOf : List ℕ → DescriptorRead
-timeOf s = at_least 12 s (parse time (bits_of s) 0 and_then λ x at. Is (Time x))
+unfoldable pub time_of : List ℕ → DescriptorRead
+time_of s = at_least 12 s (parse time (bits_of s) 0 and_then λ x at. Is (Time x))
 
-unfoldable pub reservedOf : ℕ → List ℕ → DescriptorRead
-reservedOf tag s = parse privateBytes (bits_of s) 0 and_then λ v at. Is (Reserved tag v)
+unfoldable pub reserved_of : ℕ → List ℕ → DescriptorRead
+reserved_of tag s = parse private_bytes (bits_of s) 0 and_then λ v at. Is (Reserved tag v)
 
 -- ---- segmentation: the UPID's own rules stand between the fields up to it and those after it
 
 -- a refusal found in bytes that begin at `at` (a UPID in a payload, a payload in a loop), its view counted from the start of what they lie in
-abbrev pub movedRefusal : ℕ → Refusal → Refusal
-movedRefusal at InputTooLong = InputTooLong
-movedRefusal at (NotEnoughData expected actual) = NotEnoughData expected actual
-movedRefusal at UpidLengthTypeMismatch = UpidLengthTypeMismatch
-movedRefusal at (InvalidUpidContent upid-type text) = InvalidUpidContent upid-type (shifted at text)
-movedRefusal at (InvalidUpidLength upid-type expected actual) = InvalidUpidLength upid-type expected actual
+abbrev pub moved_refusal : ℕ → Refusal → Refusal
+moved_refusal at InputTooLong = InputTooLong
+moved_refusal at (NotEnoughData expected actual) = NotEnoughData expected actual
+moved_refusal at UpidLengthTypeMismatch = UpidLengthTypeMismatch
+moved_refusal at (InvalidUpidContent upid_type_number text) = InvalidUpidContent upid_type_number (shifted at text)
+moved_refusal at (InvalidUpidLength upid_type_number expected actual) = InvalidUpidLength upid_type_number expected actual
 
 -- "Length 0 at top level is None"; "The EIDR identifier of 12 bytes is held by value. Else an item's UPID is its reported type and one view of its bytes"
-abbrev pub reportedUpid : ℕ → View → SegmentationUpid
-reportedUpid upid-type bytes = record { upid_type = upid-type; bytes = pick (withoutView upid-type) no_view bytes }
+abbrev pub reported_upid : ℕ → View → SegmentationUpid
+reported_upid upid_type_number bytes = record { upid_type = upid_type_number; bytes = pick (without_view upid_type_number) no_view bytes }
 
-abbrev pub ifFine : UpidRead → View → (SegmentationUpid → DescriptorRead) → DescriptorRead
-ifFine (UpidRead.Fine upid-type) bytes k = k (reportedUpid upid-type bytes)
-ifFine (UpidRead.Refused r) bytes k = Refused (movedRefusal bytes.at r)
+abbrev pub if_fine : UpidRead → View → (SegmentationUpid → DescriptorRead) → DescriptorRead
+if_fine (UpidRead.Fine upid_type_number) bytes k = k (reported_upid upid_type_number bytes)
+if_fine (UpidRead.Refused r) bytes k = Refused (moved_refusal bytes.at r)
 
-unfoldable pub activeWith : ℕ → Front → SegmentationUpid → Back → DescriptorRead
-activeWith event f upid b = Is (Segmentation (record { segmentation_event_id = event; descriptor_detail = Active (activeFrom f upid b) }))
+unfoldable pub active_with : ℕ → Front → SegmentationUpid → Back → DescriptorRead
+active_with event f upid b = Is (Segmentation (record { segmentation_event_id = event; descriptor_detail = Active (active_from f upid b) }))
 
-unfoldable pub activeOf : List ℕ → ℕ → ℕ → DescriptorRead
-activeOf s event at =
+unfoldable pub active_of : List ℕ → ℕ → ℕ → DescriptorRead
+active_of s event at =
     parse front (bits_of s) at and_then λ f at.
     let written = f.front.segmentation_upid in
-    ifFine (checkOf written.upid_type (viewed s written.bytes)) written.bytes λ upid.
+    if_fine (check_of written.upid_type (viewed s written.bytes)) written.bytes λ upid.
     parse back (bits_of s) at and_then λ b at.
-    activeWith event f.front upid b
+    active_with event f.front upid b
 
-unfoldable pub segmentationOf : List ℕ → DescriptorRead
-segmentationOf s =
+unfoldable pub segmentation_of : List ℕ → DescriptorRead
+segmentation_of s =
     parse head (bits_of s) 0 and_then λ h at.
     pick h.cancel
     (Is (Segmentation (record { segmentation_event_id = h.event; descriptor_detail = Cancel })))
-    (activeOf s h.event at)
+    (active_of s h.event at)
 
 -- ---- by identifier and tag
 
@@ -84,13 +84,13 @@ segmentationOf s =
 abbrev pub cuei : List ℕ
 cuei = 0x43 ∷ 0x55 ∷ 0x45 ∷ 0x49 ∷ []
 
-unfoldable pub isCuei : List ℕ → Bool
-isCuei id = eqb (get_or id 0 0) (get_or cuei 0 0) && (eqb (get_or id 1 0) (get_or cuei 1 0) && (eqb (get_or id 2 0) (get_or cuei 2 0) && eqb (get_or id 3 0) (get_or cuei 3 0)))
+unfoldable pub is_cuei : List ℕ → Bool
+is_cuei id = eqb (get_or id 0 0) (get_or cuei 0 0) && (eqb (get_or id 1 0) (get_or cuei 1 0) && (eqb (get_or id 2 0) (get_or cuei 2 0) && eqb (get_or id 3 0) (get_or cuei 3 0)))
 
 -- of "CUEI" 0 avail, 1 DTMF, 2 segmentation, 3 time; "Other tags or identifiers: reserved"
 abbrev pub by_kind : {A : Type 0} → ℕ → List ℕ → A → A → A → A → A → A
 by_kind tag identifier avail dtmf segmentation time reserved =
-    pick (isCuei identifier)
+    pick (is_cuei identifier)
     (pick (eqb tag 0) avail
     (pick (eqb tag 1) dtmf
     (pick (eqb tag 2) segmentation
@@ -98,5 +98,5 @@ by_kind tag identifier avail dtmf segmentation time reserved =
     reserved))))
     reserved
 
-unfoldable pub descriptorOf : ℕ → List ℕ → List ℕ → DescriptorRead
-descriptorOf tag identifier s = by_kind tag identifier (availOf s) (dtmfOf s) (segmentationOf s) (timeOf s) (reservedOf tag s)
+unfoldable pub descriptor_of : ℕ → List ℕ → List ℕ → DescriptorRead
+descriptor_of tag identifier s = by_kind tag identifier (avail_of s) (dtmf_of s) (segmentation_of s) (time_of s) (reserved_of tag s)

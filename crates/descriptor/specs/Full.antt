@@ -1,13 +1,13 @@
 -- What stands beside a descriptor. 01, "What must change shape": "arrays stand beside enums, not in them".
 use Rattle.std.specs.Prelude.{ℕ, List, [], replicate}
 use Rattle.table.specs.Bits.{bits_of}
-use Rattle.table.specs.Lent.{filledTo, viewed}
+use Rattle.table.specs.Lent.{filled_to, viewed}
 use Rattle.table.specs.Table.{Answer, got, short, parse}
-use Rattle.upid.specs.Upid.{eidrOf}
-use Rattle.descriptor.specs.Descriptor.{descriptorOf}
+use Rattle.upid.specs.Upid.{eidr_of}
+use Rattle.descriptor.specs.Descriptor.{descriptor_of}
 use Rattle.descriptor.specs.Segmentation as table
-use Rattle.descriptor.specs.Views.{byDescriptor}
-use Rattle.descriptor.specs.Segmentation.{blankComponent, detailUpid, segmentation}
+use Rattle.descriptor.specs.Views.{by_descriptor}
+use Rattle.descriptor.specs.Segmentation.{blank_component, detail_upid, segmentation}
 use Rattle.descriptor.specs.declared.Descriptor.{Descriptor}
 use Rattle.descriptor.specs.declared.DescriptorRead.{DescriptorRead}
 use Rattle.descriptor.specs.declared.DescriptorRead.TheVariants.{Is, Refused}
@@ -17,44 +17,44 @@ use Rattle.descriptor.specs.declared.full.Beside.{Beside}
 use Rattle.descriptor.specs.declared.full.FullDescriptor.{FullDescriptor}
 
 -- ---- f of one kind of descriptor, and `none` of any other
-abbrev pub ofSegmentation : {A : Type 0} → (SegmentationDescriptor → A) → A → Descriptor → A
-ofSegmentation f none d = byDescriptor (λ x. none) (λ x. none) f (λ x. none) (λ tag v. none) d
+abbrev pub of_segmentation : {A : Type 0} → (SegmentationDescriptor → A) → A → Descriptor → A
+of_segmentation f none d = by_descriptor (λ x. none) (λ x. none) f (λ x. none) (λ tag v. none) d
 
-abbrev pub ofReserved : {A : Type 0} → A → A → Descriptor → A
-ofReserved its none d = byDescriptor (λ x. none) (λ x. none) (λ x. none) (λ x. none) (λ tag v. its) d
+abbrev pub of_reserved : {A : Type 0} → A → A → Descriptor → A
+of_reserved its none d = by_descriptor (λ x. none) (λ x. none) (λ x. none) (λ x. none) (λ tag v. its) d
 
 -- ---- the array of a segmentation descriptor, and its EIDR
 -- "arrays with a count, 255 components, blank (all zero ..) past it"
 unfoldable pub filled : List SegmentationComponent → List SegmentationComponent
-filled cs = filledTo 255 blankComponent cs
+filled cs = filled_to 255 blank_component cs
 
-unfoldable pub blankBeside : Beside
-blankBeside = record { components = filled []; eidr = replicate 12 0 }
+unfoldable pub blank_beside : Beside
+blank_beside = record { components = filled []; eidr = replicate 12 0 }
 
 -- beside a segmentation descriptor, which has a UPID as written; "The EIDR identifier of 12 bytes is held by value"
-unfoldable pub besideIn : List ℕ → Answer table.Segmentation → Beside
-besideIn s (got x at) =
-    let upid = detailUpid x.descriptor.descriptor_detail in
-    record { components = filled x.components; eidr = eidrOf upid.upid_type (viewed s upid.bytes) }
-besideIn s (short expected actual) = blankBeside
+unfoldable pub beside_in : List ℕ → Answer table.Segmentation → Beside
+beside_in s (got x at) =
+    let upid = detail_upid x.descriptor.descriptor_detail in
+    record { components = filled x.components; eidr = eidr_of upid.upid_type (viewed s upid.bytes) }
+beside_in s (short expected actual) = blank_beside
 
-unfoldable pub besideOf : List ℕ → Beside
-besideOf s = besideIn s (parse segmentation (bits_of s) 0)
+unfoldable pub beside_of : List ℕ → Beside
+beside_of s = beside_in s (parse segmentation (bits_of s) 0)
 
 -- ---- beside any descriptor
-abbrev pub besideRead : DescriptorRead → List ℕ → Beside
-besideRead (Is d) s = ofSegmentation (λ x. besideOf s) blankBeside d
-besideRead (Refused r) s = blankBeside
+abbrev pub beside_read : DescriptorRead → List ℕ → Beside
+beside_read (Is d) s = of_segmentation (λ x. beside_of s) blank_beside d
+beside_read (Refused r) s = blank_beside
 
 -- the identifier of a reserved one; the others are "CUEI"
-abbrev pub identifierRead : DescriptorRead → List ℕ → List ℕ
-identifierRead (Is d) id = ofReserved id (replicate 4 0) d
-identifierRead (Refused r) id = replicate 4 0
+abbrev pub identifier_read : DescriptorRead → List ℕ → List ℕ
+identifier_read (Is d) id = of_reserved id (replicate 4 0) d
+identifier_read (Refused r) id = replicate 4 0
 
 unfoldable pub full_of : ℕ → List ℕ → List ℕ → FullDescriptor
 full_of tag id s =
     record {
-      read = descriptorOf tag id s;
-      identifier = identifierRead (descriptorOf tag id s) id;
-      beside = besideRead (descriptorOf tag id s) s;
+      read = descriptor_of tag id s;
+      identifier = identifier_read (descriptor_of tag id s) id;
+      beside = beside_read (descriptor_of tag id s) s;
     }

@@ -2,17 +2,17 @@
 use Rattle.std.specs.Prelude.{ℕ, ◌*◌, ◌-◌, ◌/◌, ◌%◌, List, [], ◌≡◌, eqb}
 use Rattle.std.proofs.lemmas.List.Edits.{sets}
 use Rattle.table.specs.Bits.{pick}
-use Rattle.table.specs.Cursor.{cursorAt}
+use Rattle.table.specs.Cursor.{cursor_at}
 use Rattle.table.specs.Lent.{viewed}
 use Rattle.table.specs.Table.{Answer, got, short}
 use Rattle.table.specs.declared.View.{View}
 use Rattle.table.specs.declared.cursor.Short as lacks
-use Rattle.upid.specs.Upid.{checkOf}
+use Rattle.upid.specs.Upid.{check_of}
 use Rattle.upid.specs.declared.Refusal.TheVariants.{NotEnoughData}
 use Rattle.upid.specs.declared.UpidRead.{UpidRead}
-use Rattle.descriptor.specs.Descriptor.{movedRefusal, reportedUpid}
-use Rattle.descriptor.specs.Segmentation.{deviceOf, Moded, ListedFront, Head}
-use Rattle.descriptor.specs.Views.{descriptorViews, refusalViews}
+use Rattle.descriptor.specs.Descriptor.{moved_refusal, reported_upid}
+use Rattle.descriptor.specs.Segmentation.{device_of, Moded, ListedFront, Head}
+use Rattle.descriptor.specs.Views.{descriptor_views, refusal_views}
 use Rattle.descriptor.specs.Full.{filled}
 use Rattle.descriptor.specs.declared.DescriptorRead.{DescriptorRead}
 use Rattle.descriptor.specs.declared.DescriptorRead.TheVariants.{Is, Refused}
@@ -40,82 +40,82 @@ use Rattle.descriptor.specs.declared.segmentation.UpidChecked.{UpidChecked}
 unfoldable pub lacking : lacks.Short → DescriptorRead
 lacking e = Refused (NotEnoughData e.expected e.actual)
 
-unfoldable pub octetOf : Answer ℕ → Octet
-octetOf (got v at) = Octet.Got (record { value = v; next = cursorAt at })
-octetOf (short expected actual) = Octet.Lacks (record { expected = expected; actual = actual })
+unfoldable pub octet_of : Answer ℕ → Octet
+octet_of (got v at) = Octet.Got (record { value = v; next = cursor_at at })
+octet_of (short expected actual) = Octet.Lacks (record { expected = expected; actual = actual })
 
 -- the restrictions in the byte that starts with the three flags
-unfoldable pub restrictionsIn : ℕ → DeliveryRestrictionFlags
-restrictionsIn flags =
+unfoldable pub restrictions_in : ℕ → DeliveryRestrictionFlags
+restrictions_in flags =
     pick (eqb (flags / 32 % 2) 1)
     DeliveryRestrictionFlags.None
     (DeliveryRestrictionFlags.DeliveryRestrictions (record {
       web_delivery_allowed_flag = eqb (flags / 16 % 2) 1;
       no_regional_blackout_flag = eqb (flags / 8 % 2) 1;
       archive_allowed_flag = eqb (flags / 4 % 2) 1;
-      device_restrictions = deviceOf (flags % 4);
+      device_restrictions = device_of (flags % 4);
     }))
 
 -- what a component lacks of which n bytes are there: "A bit field of w bits with m left, m < w, gives 21 (w/8, m/8), rounded down"
-unfoldable pub lackedOf : ℕ → lacks.Short
-lackedOf n =
+unfoldable pub lacked_of : ℕ → lacks.Short
+lacked_of n =
     pick (eqb n 0) (record { expected = 1; actual = 0 })
     (pick (eqb n 1) (record { expected = 0; actual = 0 })
     (record { expected = 4; actual = n - 2 }))
 
 -- ---- readers of parts that start and end with a byte: what each answer says of the table's reading
 
-abbrev pub componentRead : ComponentRead → Answer SegmentationComponent → Type 0
-componentRead (ComponentRead.Got x) r = r ≡ got x.component (x.next * 8)
-componentRead (ComponentRead.Lacks e) r = r ≡ short e.expected e.actual
+abbrev pub component_read : ComponentRead → Answer SegmentationComponent → Type 0
+component_read (ComponentRead.Got x) r = r ≡ got x.component (x.next * 8)
+component_read (ComponentRead.Lacks e) r = r ≡ short e.expected e.actual
 
 -- the components are not kept
-abbrev pub componentsPassed : ComponentsPassed → Answer (List SegmentationComponent) → Type 0
-componentsPassed (ComponentsPassed.Got next) r = (cs : List SegmentationComponent) × (r ≡ got cs (next * 8))
-componentsPassed (ComponentsPassed.Lacks e) r = r ≡ short e.expected e.actual
+abbrev pub components_passed : ComponentsPassed → Answer (List SegmentationComponent) → Type 0
+components_passed (ComponentsPassed.Got next) r = (cs : List SegmentationComponent) × (r ≡ got cs (next * 8))
+components_passed (ComponentsPassed.Lacks e) r = r ≡ short e.expected e.actual
 
-abbrev pub modeRead : ModeRead → Answer Moded → Type 0
-modeRead (ModeRead.Got x) r = (cs : List SegmentationComponent) × (r ≡ got (record { mode = x.mode; components = cs }) (x.next * 8))
-modeRead (ModeRead.Lacks e) r = r ≡ short e.expected e.actual
+abbrev pub mode_read : ModeRead → Answer Moded → Type 0
+mode_read (ModeRead.Got x) r = (cs : List SegmentationComponent) × (r ≡ got (record { mode = x.mode; components = cs }) (x.next * 8))
+mode_read (ModeRead.Lacks e) r = r ≡ short e.expected e.actual
 
-abbrev pub durationRead : DurationRead → Answer SegmentationDuration → Type 0
-durationRead (DurationRead.Got x) r = r ≡ got x.duration (x.next * 8)
-durationRead (DurationRead.Lacks e) r = r ≡ short e.expected e.actual
+abbrev pub duration_read : DurationRead → Answer SegmentationDuration → Type 0
+duration_read (DurationRead.Got x) r = r ≡ got x.duration (x.next * 8)
+duration_read (DurationRead.Lacks e) r = r ≡ short e.expected e.actual
 
-abbrev pub upidRead : WrittenRead → Answer SegmentationUpid → Type 0
-upidRead (WrittenRead.Got x) r = r ≡ got x.upid (x.next * 8)
-upidRead (WrittenRead.Lacks e) r = r ≡ short e.expected e.actual
+abbrev pub upid_read : WrittenRead → Answer SegmentationUpid → Type 0
+upid_read (WrittenRead.Got x) r = r ≡ got x.upid (x.next * 8)
+upid_read (WrittenRead.Lacks e) r = r ≡ short e.expected e.actual
 
-abbrev pub frontRead : FrontRead → Answer ListedFront → Type 0
-frontRead (FrontRead.Got x) r = (cs : List SegmentationComponent) × (r ≡ got (record { front = x.front; components = cs }) (x.next * 8))
-frontRead (FrontRead.Lacks e) r = r ≡ short e.expected e.actual
+abbrev pub front_read : FrontRead → Answer ListedFront → Type 0
+front_read (FrontRead.Got x) r = (cs : List SegmentationComponent) × (r ≡ got (record { front = x.front; components = cs }) (x.next * 8))
+front_read (FrontRead.Lacks e) r = r ≡ short e.expected e.actual
 
 -- of the same reading the mode and the UPID alone
-abbrev pub modeAndUpidRead : ModeAndUpidRead → Answer ListedFront → Type 0
-modeAndUpidRead (ModeAndUpidRead.Got x) r =
+abbrev pub mode_and_upid_read : ModeAndUpidRead → Answer ListedFront → Type 0
+mode_and_upid_read (ModeAndUpidRead.Got x) r =
     (f : Front) × (cs : List SegmentationComponent) × (r ≡ got (record { front = f; components = cs }) (x.next * 8)) × (f.segmentation_mode ≡ x.mode) × (f.segmentation_upid ≡ x.upid)
-modeAndUpidRead ModeAndUpidRead.Lacks r = (expected : ℕ) × (actual : ℕ) × (r ≡ short expected actual)
+mode_and_upid_read ModeAndUpidRead.Lacks r = (expected : ℕ) × (actual : ℕ) × (r ≡ short expected actual)
 
-abbrev pub headRead : HeadRead → Answer Head → Type 0
-headRead (HeadRead.Got x) r = r ≡ got (record { event = x.event; cancel = x.cancel }) 40
-headRead (HeadRead.Lacks e) r = r ≡ short e.expected e.actual
+abbrev pub head_read : HeadRead → Answer Head → Type 0
+head_read (HeadRead.Got x) r = r ≡ got (record { event = x.event; cancel = x.cancel }) 40
+head_read (HeadRead.Lacks e) r = r ≡ short e.expected e.actual
 
 -- and of those that end the payload
-abbrev pub subSegmentsRead : SubSegmentsRead → Answer SubSegments → Type 0
-subSegmentsRead (SubSegmentsRead.Got x) r = (m : ℕ) × (r ≡ got x m)
-subSegmentsRead (SubSegmentsRead.Lacks e) r = r ≡ short e.expected e.actual
+abbrev pub sub_segments_read : SubSegmentsRead → Answer SubSegments → Type 0
+sub_segments_read (SubSegmentsRead.Got x) r = (m : ℕ) × (r ≡ got x m)
+sub_segments_read (SubSegmentsRead.Lacks e) r = r ≡ short e.expected e.actual
 
-abbrev pub backRead : BackRead → Answer Back → Type 0
-backRead (BackRead.Got x) r = (m : ℕ) × (r ≡ got x m)
-backRead (BackRead.Lacks e) r = r ≡ short e.expected e.actual
+abbrev pub back_read : BackRead → Answer Back → Type 0
+back_read (BackRead.Got x) r = (m : ℕ) × (r ≡ got x m)
+back_read (BackRead.Lacks e) r = r ≡ short e.expected e.actual
 
 -- a UPID that is checked
-abbrev pub upidAnswer : UpidRead → View → UpidChecked
-upidAnswer (UpidRead.Fine upid-type) bytes = UpidChecked.Is (reportedUpid upid-type bytes)
-upidAnswer (UpidRead.Refused r) bytes = UpidChecked.Refused (movedRefusal bytes.at r)
+abbrev pub upid_answer : UpidRead → View → UpidChecked
+upid_answer (UpidRead.Fine upid_type_number) bytes = UpidChecked.Is (reported_upid upid_type_number bytes)
+upid_answer (UpidRead.Refused r) bytes = UpidChecked.Refused (moved_refusal bytes.at r)
 
-unfoldable pub upidChecked : List ℕ → SegmentationUpid → UpidChecked
-upidChecked s u = upidAnswer (checkOf u.upid_type (viewed s u.bytes)) u.bytes
+unfoldable pub upid_checked : List ℕ → SegmentationUpid → UpidChecked
+upid_checked s u = upid_answer (check_of u.upid_type (viewed s u.bytes)) u.bytes
 
 -- components stored in an array from place i on; the blank array where they are not all there
 unfoldable pub filling : List SegmentationComponent → ℕ → Answer (List SegmentationComponent) → List SegmentationComponent
@@ -123,6 +123,6 @@ filling out i (got cs at) = sets out i cs
 filling out i (short expected actual) = filled []
 
 -- the views in what is read
-abbrev pub readViews : DescriptorRead → List View
-readViews (Is d) = descriptorViews d
-readViews (Refused r) = refusalViews r
+abbrev pub read_views : DescriptorRead → List View
+read_views (Is d) = descriptor_views d
+read_views (Refused r) = refusal_views r

@@ -1,7 +1,7 @@
 -- The payload of a segmentation descriptor. 01, "Loop items". The rules of its UPID are not the table's: here it has the type that is written.
 use Rattle.std.specs.Prelude.{ℕ, ◌+◌, ◌*◌, ◌/◌, ◌%◌, Bool, true, false, not, ◌&&◌, List, [], eqb}
-use Rattle.names.specs.Flags.{Answer, gives, refuses, restrictionsBits, restrictionsOf}
-use Rattle.names.specs.Segmentation.{segmentationNumber, segmentationTypeOf, writableSegmentation}
+use Rattle.names.specs.Flags.{Answer, gives, refuses, restrictions_bits, restrictions_of}
+use Rattle.names.specs.Segmentation.{segmentation_number, segmentation_type_of, writable_segmentation}
 use Rattle.names.specs.declared.flags.DeviceRestrictions.{DeviceRestrictions}
 use Rattle.table.specs.Bits.{pick}
 use Rattle.table.specs.Lent.{no_view}
@@ -30,8 +30,8 @@ abbrev pub named : Answer DeviceRestrictions → DeviceRestrictions
 named (gives d) = d
 named (refuses number values) = DeviceRestrictions.None
 
-unfoldable pub deviceOf : ℕ → DeviceRestrictions
-deviceOf n = named (restrictionsOf n)
+unfoldable pub device_of : ℕ → DeviceRestrictions
+device_of n = named (restrictions_of n)
 
 abbrev pub restricted : DeliveryRestrictionFlags → DeliveryRestrictions
 restricted DeliveryRestrictionFlags.None = record {
@@ -46,37 +46,37 @@ abbrev pub unrestricted : DeliveryRestrictionFlags → Bool
 unrestricted DeliveryRestrictionFlags.None = true
 unrestricted (DeliveryRestrictionFlags.DeliveryRestrictions r) = false
 
-unfoldable pub deliveryRestrictions : Bool → Table DeliveryRestrictionFlags
-deliveryRestrictions not-restricted =
-    pick not-restricted
+unfoldable pub delivery_restrictions : Bool → Table DeliveryRestrictionFlags
+delivery_restrictions not_restricted =
+    pick not_restricted
     (ones 5 (
     done DeliveryRestrictionFlags.None))
-    (flag (λ x. (restricted x).web_delivery_allowed_flag) λ web-delivery-allowed.
-    flag (λ x. (restricted x).no_regional_blackout_flag) λ no-regional-blackout.
-    flag (λ x. (restricted x).archive_allowed_flag) λ archive-allowed.
-    uimsbf 2 (λ x. restrictionsBits (restricted x).device_restrictions) λ device-restrictions.
+    (flag (λ x. (restricted x).web_delivery_allowed_flag) λ web_delivery_allowed.
+    flag (λ x. (restricted x).no_regional_blackout_flag) λ no_regional_blackout.
+    flag (λ x. (restricted x).archive_allowed_flag) λ archive_allowed.
+    uimsbf 2 (λ x. restrictions_bits (restricted x).device_restrictions) λ device_restrictions.
     done (DeliveryRestrictionFlags.DeliveryRestrictions (record {
-      web_delivery_allowed_flag = web-delivery-allowed;
-      no_regional_blackout_flag = no-regional-blackout;
-      archive_allowed_flag = archive-allowed;
-      device_restrictions = deviceOf device-restrictions;
+      web_delivery_allowed_flag = web_delivery_allowed;
+      no_regional_blackout_flag = no_regional_blackout;
+      archive_allowed_flag = archive_allowed;
+      device_restrictions = device_of device_restrictions;
     })))
 
 -- ---- "if not program: count 8, each tag 8, reserved 7, offset 33"
 
 unfoldable pub component : Table SegmentationComponent
 component =
-    uimsbf 8 (λ x. x.component_tag) λ component-tag.
+    uimsbf 8 (λ x. x.component_tag) λ component_tag.
     ones 7 (
-    uimsbf 33 (λ x. x.pts_offset) λ pts-offset.
-    done (record { component_tag = component-tag; pts_offset = pts-offset }))
+    uimsbf 33 (λ x. x.pts_offset) λ pts_offset.
+    done (record { component_tag = component_tag; pts_offset = pts_offset }))
 
-abbrev pub blankComponent : SegmentationComponent
-blankComponent = record { component_tag = 0; pts_offset = 0 }
+abbrev pub blank_component : SegmentationComponent
+blank_component = record { component_tag = 0; pts_offset = 0 }
 
-abbrev pub byProgram : SegmentationMode → Bool
-byProgram Program = true
-byProgram (Component n) = false
+abbrev pub by_program : SegmentationMode → Bool
+by_program Program = true
+by_program (Component n) = false
 
 abbrev pub count_of : SegmentationMode → ℕ
 count_of Program = 0
@@ -88,17 +88,17 @@ pub record Moded : Type 0 where
   pub components : List SegmentationComponent
 
 unfoldable pub mode : Bool → Table Moded
-mode program-segmentation =
-    pick program-segmentation
+mode program_segmentation =
+    pick program_segmentation
     (done (record { mode = Program; components = [] }))
-    (uimsbf 8 (λ x. count_of x.mode) λ component-count.
-    inside (list component-count blankComponent component) (λ x. x.components) λ components.
-    done (record { mode = Component component-count; components = components }))
+    (uimsbf 8 (λ x. count_of x.mode) λ component_count'.
+    inside (list component_count' blank_component component) (λ x. x.components) λ components.
+    done (record { mode = Component component_count'; components = components }))
 
 -- how many bytes the mode with its components takes
-abbrev pub modeSize : SegmentationMode → ℕ
-modeSize Program = 0
-modeSize (Component n) = 1 + n * 6
+abbrev pub mode_size : SegmentationMode → ℕ
+mode_size Program = 0
+mode_size (Component n) = 1 + n * 6
 
 -- ---- "duration 40 if flagged"
 
@@ -113,26 +113,26 @@ lasting (Ticks t) = true
 unfoldable pub duration : Bool → Table SegmentationDuration
 duration flagged =
     pick flagged
-    (uimsbf 40 ticks λ segmentation-duration.
-    done (Ticks segmentation-duration))
+    (uimsbf 40 ticks λ segmentation_duration.
+    done (Ticks segmentation_duration))
     (done SegmentationDuration.Absent)
 
-abbrev pub durationSize : SegmentationDuration → ℕ
-durationSize SegmentationDuration.Absent = 0
-durationSize (Ticks t) = 5
+abbrev pub duration_size : SegmentationDuration → ℕ
+duration_size SegmentationDuration.Absent = 0
+duration_size (Ticks t) = 5
 
 -- how many bytes both take, by the byte of flags and the byte after it
-abbrev pub fieldsBefore : ℕ → ℕ → ℕ
-fieldsBefore flags count = pick (eqb (flags / 128 % 2) 1) 0 (1 + count * 6) + pick (eqb (flags / 64 % 2) 1) 5 0
+abbrev pub fields_before : ℕ → ℕ → ℕ
+fields_before flags count = pick (eqb (flags / 128 % 2) 1) 0 (1 + count * 6) + pick (eqb (flags / 64 % 2) 1) 5 0
 
 -- ---- "UPID type 8, length 8, bytes"
 
-unfoldable pub writtenUpid : Table SegmentationUpid
-writtenUpid =
-    uimsbf 8 (λ x. x.upid_type) λ upid-type.
+unfoldable pub written_upid : Table SegmentationUpid
+written_upid =
+    uimsbf 8 (λ x. x.upid_type) λ upid_type_number.
     uimsbf 8 (λ x. x.bytes.len) λ length.
     inside (part length) (λ x. x.bytes) λ bytes.
-    done (record { upid_type = upid-type; bytes = bytes })
+    done (record { upid_type = upid_type_number; bytes = bytes })
 
 -- ---- "program 1, duration 1, not-restricted 1", and all up to the UPID
 
@@ -142,10 +142,10 @@ pub record ListedFront : Type 0 where
 
 unfoldable pub parts : Bool → Bool → Bool → Table ListedFront
 parts program lasting free =
-    inside (deliveryRestrictions free) (λ x. x.front.delivery_restrictions) λ restrictions.
+    inside (delivery_restrictions free) (λ x. x.front.delivery_restrictions) λ restrictions.
     inside (mode program) (λ x. record { mode = x.front.segmentation_mode; components = x.components }) λ moded.
     inside (duration lasting) (λ x. x.front.segmentation_duration) λ lasts.
-    inside writtenUpid (λ x. x.front.segmentation_upid) λ upid.
+    inside written_upid (λ x. x.front.segmentation_upid) λ upid.
     done (record {
       front = record {
         program_segmentation_flag = program;
@@ -159,47 +159,47 @@ parts program lasting free =
       components = moded.components;
     })
 
--- Each flag is written as its part says, so that every number handed in is looked at. Where a flag says otherwise, that is refusal 33 (`writableDetail`).
+-- Each flag is written as its part says, so that every number handed in is looked at. Where a flag says otherwise, that is refusal 33 (`writable_detail`).
 unfoldable pub front : Table ListedFront
 front =
-    flag (λ x. byProgram x.front.segmentation_mode) λ program-segmentation.
-    flag (λ x. lasting x.front.segmentation_duration) λ segmentation-duration.
-    flag (λ x. unrestricted x.front.delivery_restrictions) λ delivery-not-restricted.
-    parts program-segmentation segmentation-duration delivery-not-restricted
+    flag (λ x. by_program x.front.segmentation_mode) λ program_segmentation.
+    flag (λ x. lasting x.front.segmentation_duration) λ segmentation_duration.
+    flag (λ x. unrestricted x.front.delivery_restrictions) λ delivery_not_restricted.
+    parts program_segmentation segmentation_duration delivery_not_restricted
 
 -- ---- "Then 0 bytes left: no sub-segments; 1 left: 21 (1, 0); 2 or more: two bytes of sub-segments." In the canonical form there are no more.
 
-abbrev pub subBytes : SubSegments → ℕ
-subBytes SubSegments.Absent = 0
-subBytes (SubSegments.Is x) = 2
+abbrev pub sub_bytes : SubSegments → ℕ
+sub_bytes SubSegments.Absent = 0
+sub_bytes (SubSegments.Is x) = 2
 
-abbrev pub subSegment : SubSegments → SubSegment
-subSegment SubSegments.Absent = record { sub_segment_num = 0; sub_segments_expected = 0 }
-subSegment (SubSegments.Is x) = x
+abbrev pub sub_segment : SubSegments → SubSegment
+sub_segment SubSegments.Absent = record { sub_segment_num = 0; sub_segments_expected = 0 }
+sub_segment (SubSegments.Is x) = x
 
-unfoldable pub subSegments : Table SubSegments
-subSegments =
-    inside remaining subBytes λ bytes_left.
+unfoldable pub sub_segments : Table SubSegments
+sub_segments =
+    inside remaining sub_bytes λ bytes_left.
     pick (eqb bytes_left 0)
     (done SubSegments.Absent)
     (must (eqb bytes_left 2) (
-    uimsbf 8 (λ x. (subSegment x).sub_segment_num) λ sub-segment-num.
-    uimsbf 8 (λ x. (subSegment x).sub_segments_expected) λ sub-segments-expected.
-    done (SubSegments.Is (record { sub_segment_num = sub-segment-num; sub_segments_expected = sub-segments-expected }))))
+    uimsbf 8 (λ x. (sub_segment x).sub_segment_num) λ sub_segment_num.
+    uimsbf 8 (λ x. (sub_segment x).sub_segments_expected) λ sub_segments_expected.
+    done (SubSegments.Is (record { sub_segment_num = sub_segment_num; sub_segments_expected = sub_segments_expected }))))
 
 -- ---- "type id 8, number 8, expected 8", and the sub-segments
 
 unfoldable pub back : Table Back
 back =
-    uimsbf 8 (λ x. segmentationNumber x.segmentation_type_id) λ segmentation-type-id.
-    uimsbf 8 (λ x. x.segment_num) λ segment-num.
-    uimsbf 8 (λ x. x.segments_expected) λ segments-expected.
-    inside subSegments (λ x. x.sub_segments) λ sub-segments.
+    uimsbf 8 (λ x. segmentation_number x.segmentation_type_id) λ segmentation_type_id.
+    uimsbf 8 (λ x. x.segment_num) λ segment_num.
+    uimsbf 8 (λ x. x.segments_expected) λ segments_expected.
+    inside sub_segments (λ x. x.sub_segments) λ sub_segments'.
     done (record {
-      segmentation_type_id = segmentationTypeOf segmentation-type-id;
-      segment_num = segment-num;
-      segments_expected = segments-expected;
-      sub_segments = sub-segments;
+      segmentation_type_id = segmentation_type_of segmentation_type_id;
+      segment_num = segment_num;
+      segments_expected = segments_expected;
+      sub_segments = sub_segments';
     })
 
 -- ---- "event id 32, cancel 1, reserved 7"
@@ -210,10 +210,10 @@ pub record Head : Type 0 where
 
 unfoldable pub head : Table Head
 head =
-    uimsbf 32 (λ x. x.event) λ segmentation-event-id.
-    flag (λ x. x.cancel) λ segmentation-event-cancel.
+    uimsbf 32 (λ x. x.event) λ segmentation_event_id.
+    flag (λ x. x.cancel) λ segmentation_event_cancel.
     ones 7 (
-    done (record { event = segmentation-event-id; cancel = segmentation-event-cancel }))
+    done (record { event = segmentation_event_id; cancel = segmentation_event_cancel }))
 
 -- ---- the whole, with its components; what a cancelled one leaves out is blank
 
@@ -221,8 +221,8 @@ pub record Segmentation : Type 0 where
   pub descriptor : SegmentationDescriptor
   pub components : List SegmentationComponent
 
-abbrev pub activeFrom : Front → SegmentationUpid → Back → SegmentationDetail
-activeFrom f upid b = record {
+abbrev pub active_from : Front → SegmentationUpid → Back → SegmentationDetail
+active_from f upid b = record {
   program_segmentation_flag = f.program_segmentation_flag;
   segmentation_duration_flag = f.segmentation_duration_flag;
   delivery_not_restricted_flag = f.delivery_not_restricted_flag;
@@ -236,23 +236,23 @@ activeFrom f upid b = record {
   sub_segments = b.sub_segments;
 }
 
-abbrev pub blankUpid : SegmentationUpid
-blankUpid = record { upid_type = 0; bytes = no_view }
+abbrev pub blank_upid : SegmentationUpid
+blank_upid = record { upid_type = 0; bytes = no_view }
 
-abbrev pub blankFront : Front
-blankFront = record {
+abbrev pub blank_front : Front
+blank_front = record {
   program_segmentation_flag = true;
   segmentation_duration_flag = false;
   delivery_not_restricted_flag = true;
   delivery_restrictions = DeliveryRestrictionFlags.None;
   segmentation_mode = Program;
   segmentation_duration = SegmentationDuration.Absent;
-  segmentation_upid = blankUpid;
+  segmentation_upid = blank_upid;
 }
 
-abbrev pub blankBack : Back
-blankBack = record {
-  segmentation_type_id = segmentationTypeOf 0;
+abbrev pub blank_back : Back
+blank_back = record {
+  segmentation_type_id = segmentation_type_of 0;
   segment_num = 0;
   segments_expected = 0;
   sub_segments = SubSegments.Absent;
@@ -262,9 +262,9 @@ abbrev pub cancelled : DescriptorDetail → Bool
 cancelled Cancel = true
 cancelled (Active i) = false
 
-abbrev pub frontOf : DescriptorDetail → Front
-frontOf Cancel = blankFront
-frontOf (Active i) = record {
+abbrev pub front_of : DescriptorDetail → Front
+front_of Cancel = blank_front
+front_of (Active i) = record {
   program_segmentation_flag = i.program_segmentation_flag;
   segmentation_duration_flag = i.segmentation_duration_flag;
   delivery_not_restricted_flag = i.delivery_not_restricted_flag;
@@ -274,9 +274,9 @@ frontOf (Active i) = record {
   segmentation_upid = i.segmentation_upid;
 }
 
-abbrev pub backOf : DescriptorDetail → Back
-backOf Cancel = blankBack
-backOf (Active i) = record {
+abbrev pub back_of : DescriptorDetail → Back
+back_of Cancel = blank_back
+back_of (Active i) = record {
   segmentation_type_id = i.segmentation_type_id;
   segment_num = i.segment_num;
   segments_expected = i.segments_expected;
@@ -284,18 +284,18 @@ backOf (Active i) = record {
 }
 
 -- the UPID of a detail, and how many components it has
-abbrev pub detailUpid : DescriptorDetail → SegmentationUpid
-detailUpid d = (frontOf d).segmentation_upid
+abbrev pub detail_upid : DescriptorDetail → SegmentationUpid
+detail_upid d = (front_of d).segmentation_upid
 
-abbrev pub detailCount : DescriptorDetail → ℕ
-detailCount d = count_of (frontOf d).segmentation_mode
+abbrev pub detail_count : DescriptorDetail → ℕ
+detail_count d = count_of (front_of d).segmentation_mode
 
-abbrev pub componentCount : SegmentationDescriptor → ℕ
-componentCount x = detailCount x.descriptor_detail
+abbrev pub component_count : SegmentationDescriptor → ℕ
+component_count x = detail_count x.descriptor_detail
 
 -- a detail with another UPID
-abbrev pub withUpid : SegmentationDetail → SegmentationUpid → SegmentationDetail
-withUpid i upid = record {
+abbrev pub with_upid : SegmentationDetail → SegmentationUpid → SegmentationDetail
+with_upid i upid = record {
   program_segmentation_flag = i.program_segmentation_flag;
   segmentation_duration_flag = i.segmentation_duration_flag;
   delivery_not_restricted_flag = i.delivery_not_restricted_flag;
@@ -317,10 +317,10 @@ segmentation =
     inside head (λ x. head_of x.descriptor) λ h.
     pick h.cancel
     (done (record { descriptor = record { segmentation_event_id = h.event; descriptor_detail = Cancel }; components = [] }))
-    (inside front (λ x. record { front = frontOf x.descriptor.descriptor_detail; components = x.components }) λ f.
-    inside back (λ x. backOf x.descriptor.descriptor_detail) λ b.
+    (inside front (λ x. record { front = front_of x.descriptor.descriptor_detail; components = x.components }) λ f.
+    inside back (λ x. back_of x.descriptor.descriptor_detail) λ b.
     done (record {
-      descriptor = record { segmentation_event_id = h.event; descriptor_detail = Active (activeFrom f.front f.front.segmentation_upid b) };
+      descriptor = record { segmentation_event_id = h.event; descriptor_detail = Active (active_from f.front f.front.segmentation_upid b) };
       components = f.components;
     }))
 
@@ -331,12 +331,12 @@ abbrev pub agrees : Bool → Bool → Bool
 agrees true b = b
 agrees false b = not b
 
-unfoldable pub writableFront : Front → Bool
-writableFront f =
-    agrees f.program_segmentation_flag (byProgram f.segmentation_mode)
+unfoldable pub writable_front : Front → Bool
+writable_front f =
+    agrees f.program_segmentation_flag (by_program f.segmentation_mode)
     && (agrees f.segmentation_duration_flag (lasting f.segmentation_duration)
     && agrees f.delivery_not_restricted_flag (unrestricted f.delivery_restrictions))
 
-unfoldable pub writableDetail : DescriptorDetail → Bool
-writableDetail Cancel = true
-writableDetail (Active i) = writableFront (frontOf (Active i)) && writableSegmentation i.segmentation_type_id
+unfoldable pub writable_detail : DescriptorDetail → Bool
+writable_detail Cancel = true
+writable_detail (Active i) = writable_front (front_of (Active i)) && writable_segmentation i.segmentation_type_id

@@ -1,7 +1,7 @@
 // A segmentation descriptor's fields after its UPID.
 ghost use Rattle.std.specs.Prelude.{◌≡◌, ◌+◌, ◌*◌, ◌≤◌, length};
-ghost use Rattle.descriptor.specs.Segmentation.{subSegments, back};
-ghost use Rattle.descriptor.specs.Private.{subSegmentsRead, backRead};
+ghost use Rattle.descriptor.specs.Segmentation.{sub_segments, back};
+ghost use Rattle.descriptor.specs.Private.{sub_segments_read, back_read};
 ghost use Rattle.table.specs.Bits.{bits_of};
 ghost use Rattle.table.specs.Table.{parse};
 
@@ -31,7 +31,7 @@ pub(crate) enum BackRead {
 
 fn read_sub_segments(s: &[u8], at: usize) -> SubSegmentsRead
     requires { at ≤ length s.now }
-    ensures { subSegmentsRead result (parse subSegments (bits_of s.now) (at * 8)) }
+    ensures { sub_segments_read result (parse sub_segments (bits_of s.now) (at * 8)) }
 {
     let left = s.len() - at;
     if left == 0 {
@@ -51,7 +51,7 @@ fn read_sub_segments(s: &[u8], at: usize) -> SubSegmentsRead
 
 pub(crate) fn read_back(s: &[u8], at: usize) -> BackRead
     requires { at ≤ length s.now }
-    ensures { backRead result (parse back (bits_of s.now) (at * 8)) }
+    ensures { back_read result (parse back (bits_of s.now) (at * 8)) }
 {
     if s.len() - at < 3 {
         return BackRead::Lacks(Short {

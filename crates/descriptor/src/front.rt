@@ -1,7 +1,7 @@
 // A segmentation descriptor's fields from its three flags to its UPID. Each part starts with a byte; `at` is that byte's place.
 ghost use Rattle.std.specs.Prelude.{◌≡◌, ◌+◌, ◌*◌, ◌≤◌, ◌<◌, length};
-ghost use Rattle.descriptor.specs.Segmentation.{deviceOf, blankComponent, component, mode, duration, writtenUpid, front};
-ghost use Rattle.descriptor.specs.Private.{restrictionsIn, lackedOf, componentRead, componentsPassed, modeRead, durationRead, upidRead, modeAndUpidRead, frontRead};
+ghost use Rattle.descriptor.specs.Segmentation.{device_of, blank_component, component, mode, duration, written_upid, front};
+ghost use Rattle.descriptor.specs.Private.{restrictions_in, lacked_of, component_read, components_passed, mode_read, duration_read, upid_read, mode_and_upid_read, front_read};
 ghost use Rattle.table.specs.Bits.{bits_of};
 ghost use Rattle.table.specs.Table.{list, parse};
 
@@ -110,7 +110,7 @@ pub(crate) enum ModeAndUpidRead {
 
 // The value that two bits stand for: each of their numbers has a name.
 fn device(bits: u8) -> DeviceRestrictions
-    ensures { result ≡ deviceOf bits }
+    ensures { result ≡ device_of bits }
 {
     match DeviceRestrictions::from_bits(bits) {
         RestrictionsRead::Is(d) => d,
@@ -120,7 +120,7 @@ fn device(bits: u8) -> DeviceRestrictions
 
 // The restrictions in the last five bits of the byte of flags, which say something unless the third does not restrict.
 fn restrictions(flags: u8) -> DeliveryRestrictionFlags
-    ensures { result ≡ restrictionsIn flags }
+    ensures { result ≡ restrictions_in flags }
 {
     if flags / 32 % 2 == 1 {
         return DeliveryRestrictionFlags::None;
@@ -136,7 +136,7 @@ fn restrictions(flags: u8) -> DeliveryRestrictionFlags
 // What a component of which `left` bytes are there lacks first: its tag, its reserved bits or its offset.
 fn lacked(left: usize) -> Short
     requires { left < 6 }
-    ensures { result ≡ lackedOf left }
+    ensures { result ≡ lacked_of left }
 {
     if left == 0 {
         return Short {
@@ -158,7 +158,7 @@ fn lacked(left: usize) -> Short
 
 pub(crate) fn read_component(s: &[u8], at: usize) -> ComponentRead
     requires { at ≤ length s.now }
-    ensures { componentRead result (parse component (bits_of s.now) (at * 8)) }
+    ensures { component_read result (parse component (bits_of s.now) (at * 8)) }
 {
     let left = s.len() - at;
     if left < 6 {
@@ -176,7 +176,7 @@ pub(crate) fn read_component(s: &[u8], at: usize) -> ComponentRead
 // Past n components, of six bytes each; where they are not all there, the first of them that is not complete lacks something.
 fn pass_components(s: &[u8], at: usize, n: u8) -> ComponentsPassed
     requires { at ≤ length s.now }
-    ensures { componentsPassed result (parse (list n blankComponent component) (bits_of s.now) (at * 8)) }
+    ensures { components_passed result (parse (list n blank_component component) (bits_of s.now) (at * 8)) }
 {
     let left = s.len() - at;
     let bytes = size(n) * 6;
@@ -188,7 +188,7 @@ fn pass_components(s: &[u8], at: usize, n: u8) -> ComponentsPassed
 
 fn read_mode(s: &[u8], at: usize, program: bool) -> ModeRead
     requires { at ≤ length s.now }
-    ensures { modeRead result (parse (mode program) (bits_of s.now) (at * 8)) }
+    ensures { mode_read result (parse (mode program) (bits_of s.now) (at * 8)) }
 {
     if program {
         return ModeRead::Got(Mode {
@@ -214,7 +214,7 @@ fn read_mode(s: &[u8], at: usize, program: bool) -> ModeRead
 
 fn read_duration(s: &[u8], at: usize, flagged: bool) -> DurationRead
     requires { at ≤ length s.now }
-    ensures { durationRead result (parse (duration flagged) (bits_of s.now) (at * 8)) }
+    ensures { duration_read result (parse (duration flagged) (bits_of s.now) (at * 8)) }
 {
     if flagged {
         let left = s.len() - at;
@@ -237,7 +237,7 @@ fn read_duration(s: &[u8], at: usize, flagged: bool) -> DurationRead
 
 fn read_written_upid(s: &[u8], at: usize) -> WrittenRead
     requires { at ≤ length s.now }
-    ensures { upidRead result (parse writtenUpid (bits_of s.now) (at * 8)) }
+    ensures { upid_read result (parse written_upid (bits_of s.now) (at * 8)) }
 {
     let left = s.len() - at;
     if left < 2 {
@@ -265,7 +265,7 @@ fn read_written_upid(s: &[u8], at: usize) -> WrittenRead
 
 // Of these fields the mode and the UPID as it is written, for those who ask for no more.
 pub(crate) fn read_mode_and_upid(s: &[u8], at: usize) -> ModeAndUpidRead
-    ensures { modeAndUpidRead result (parse front (bits_of s.now) (at * 8)) }
+    ensures { mode_and_upid_read result (parse front (bits_of s.now) (at * 8)) }
 {
     if s.len() <= at {
         return ModeAndUpidRead::Lacks;
@@ -294,7 +294,7 @@ pub(crate) fn read_mode_and_upid(s: &[u8], at: usize) -> ModeAndUpidRead
 
 // The byte of flags, and what the first two say of the rest.
 pub(crate) fn read_front(s: &[u8], at: usize) -> FrontRead
-    ensures { frontRead result (parse front (bits_of s.now) (at * 8)) }
+    ensures { front_read result (parse front (bits_of s.now) (at * 8)) }
 {
     if s.len() <= at {
         return FrontRead::Lacks(Short {

@@ -1,8 +1,8 @@
 // What stands beside a descriptor, for those who ask: the identifier of a reserved one, and the components and the EIDR of a segmentation descriptor.
 ghost use Rattle.std.specs.Prelude.{◌≡◌, [], ◌*◌, ◌≤◌, length};
-ghost use Rattle.descriptor.specs.Segmentation.{blankComponent, component};
+ghost use Rattle.descriptor.specs.Segmentation.{blank_component, component};
 ghost use Rattle.descriptor.specs.Private.{filling};
-ghost use Rattle.descriptor.specs.Full.{blankBeside, filled, besideOf, besideRead, identifierRead, full_of};
+ghost use Rattle.descriptor.specs.Full.{blank_beside, filled, beside_of, beside_read, identifier_read, full_of};
 ghost use Rattle.table.specs.Bits.{bits_of};
 ghost use Rattle.table.specs.Table.{list, parse};
 
@@ -43,7 +43,7 @@ fn no_components() -> [SegmentationComponent; MAX_COMPONENTS]
 
 // Nothing beside: all components and the EIDR blank.
 pub fn blank_beside() -> Beside
-    ensures { result ≡ blankBeside }
+    ensures { result ≡ blank_beside }
 {
     Beside {
         components: no_components(),
@@ -54,7 +54,7 @@ pub fn blank_beside() -> Beside
 // n components from a byte on; none where they are not all there.
 fn list_components(s: &[u8], from: usize, n: u8) -> [SegmentationComponent; MAX_COMPONENTS]
     requires { from ≤ length s.now }
-    ensures { result ≡ filling (filled []) 0 (parse (list n blankComponent component) (bits_of s.now) (from * 8)) }
+    ensures { result ≡ filling (filled []) 0 (parse (list n blank_component component) (bits_of s.now) (from * 8)) }
 {
     let mut out = no_components();
     let mut next = from;
@@ -76,7 +76,7 @@ fn list_components(s: &[u8], from: usize, n: u8) -> [SegmentationComponent; MAX_
 // What stands beside a segmentation descriptor; nothing where its payload lacks a field. A UPID that is refused is none of its tests, so only who has read the
 // descriptor calls it.
 fn read_beside(payload: &[u8]) -> Beside
-    ensures { result ≡ besideOf payload.now }
+    ensures { result ≡ beside_of payload.now }
 {
     let head = match read_head(payload) {
         HeadRead::Got(h) => h,
@@ -112,7 +112,7 @@ fn read_beside(payload: &[u8]) -> Beside
 
 // What stands beside the reading of a payload.
 pub fn beside_of(read: DescriptorRead, payload: &[u8]) -> Beside
-    ensures { result ≡ besideRead read payload.now }
+    ensures { result ≡ beside_read read payload.now }
 {
     match read {
         DescriptorRead::Refused(_) => blank_beside(),
@@ -131,7 +131,7 @@ pub fn beside_of(read: DescriptorRead, payload: &[u8]) -> Beside
 
 // The identifier that stands beside a reading: all zero where the descriptor's kind implies it.
 pub fn identifier_of(read: DescriptorRead, identifier: [u8; 4]) -> [u8; 4]
-    ensures { result ≡ identifierRead read identifier }
+    ensures { result ≡ identifier_read read identifier }
 {
     match read {
         DescriptorRead::Refused(_) => [0; 4],

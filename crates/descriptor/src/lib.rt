@@ -1,6 +1,6 @@
 // Splice descriptors: what an item of the loop holds (document 01, "Loop items"). A payload is what follows the identifier; views count from its start.
 ghost use Rattle.std.specs.Prelude.{◌≡◌};
-ghost use Rattle.descriptor.specs.Descriptor.{isCuei, descriptorOf};
+ghost use Rattle.descriptor.specs.Descriptor.{is_cuei, descriptor_of};
 
 use crate::plain::{
     AvailDescriptor, DTMFDescriptor, TimeDescriptor, read_avail, read_dtmf, read_reserved,
@@ -36,7 +36,7 @@ pub enum DescriptorRead {
 
 // Whether an identifier is "CUEI".
 pub fn is_cuei(identifier: [u8; 4]) -> bool
-    ensures { result ≡ isCuei identifier }
+    ensures { result ≡ is_cuei identifier }
 {
     if identifier[0] != 0x43 {
         return false;
@@ -53,7 +53,7 @@ pub fn is_cuei(identifier: [u8; 4]) -> bool
 // The descriptor that a tag, an identifier and a payload make. Each arm returns, here and where a caller matches the answer: what
 // is built is then stored where it goes, and is not merged with what the other arms build.
 pub fn read_descriptor(tag: u8, identifier: [u8; 4], payload: &[u8]) -> DescriptorRead
-    ensures { result ≡ descriptorOf tag identifier payload.now }
+    ensures { result ≡ descriptor_of tag identifier payload.now }
 {
     if is_cuei(identifier) {
         match tag {

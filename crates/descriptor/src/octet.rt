@@ -1,6 +1,6 @@
 // Numbers that bytes hold, and the refusal of a field that is not there.
 ghost use Rattle.std.specs.Prelude.{◌≡◌, ◌+◌, ◌*◌, ◌^◌, ◌≤◌, ◌<◌, length};
-ghost use Rattle.descriptor.specs.Private.{octetOf, lacking};
+ghost use Rattle.descriptor.specs.Private.{octet_of, lacking};
 ghost use Rattle.table.specs.Bits.{bits_of, field};
 ghost use Rattle.table.specs.Cursor.{place};
 ghost use Rattle.table.specs.Table.{number, parse};
@@ -25,7 +25,7 @@ pub(crate) enum Octet {
 // The number in the next w bits, of which there are at most eight.
 pub(crate) fn take_octet(s: &[u8], c: Cursor, w: usize) -> Octet
     requires { w ≤ 8 }
-    ensures { result ≡ octetOf (parse (number w) (bits_of s.now) (place c)) }
+    ensures { result ≡ octet_of (parse (number w) (bits_of s.now) (place c)) }
 {
     match c.take(s, w) {
         Taken::Got(n) => {

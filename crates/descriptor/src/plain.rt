@@ -1,6 +1,6 @@
 // The payloads of avail, DTMF, time and reserved descriptors.
 ghost use Rattle.std.specs.Prelude.{◌≡◌};
-ghost use Rattle.descriptor.specs.Descriptor.{availOf, dtmfOf, timeOf, reservedOf};
+ghost use Rattle.descriptor.specs.Descriptor.{avail_of, dtmf_of, time_of, reserved_of};
 
 use crate::octet::{Octet, lacks, take_octet};
 use crate::{Descriptor, DescriptorRead};
@@ -29,7 +29,7 @@ pub struct TimeDescriptor {
 
 // Tag 0: the payload is tested whole.
 pub fn read_avail(payload: &[u8]) -> DescriptorRead
-    ensures { result ≡ availOf payload.now }
+    ensures { result ≡ avail_of payload.now }
 {
     if payload.len() < 4 {
         return DescriptorRead::Refused(Refusal::NotEnoughData {
@@ -44,7 +44,7 @@ pub fn read_avail(payload: &[u8]) -> DescriptorRead
 
 // Tag 1: field by field.
 pub fn read_dtmf(payload: &[u8]) -> DescriptorRead
-    ensures { result ≡ dtmfOf payload.now }
+    ensures { result ≡ dtmf_of payload.now }
 {
     let start = Cursor { byte: 0, bit: 0 };
     let preroll = match take_octet(payload, start, 8) {
@@ -74,7 +74,7 @@ pub fn read_dtmf(payload: &[u8]) -> DescriptorRead
 
 // Tag 3: the payload is tested whole.
 pub fn read_time(payload: &[u8]) -> DescriptorRead
-    ensures { result ≡ timeOf payload.now }
+    ensures { result ≡ time_of payload.now }
 {
     if payload.len() < 12 {
         return DescriptorRead::Refused(Refusal::NotEnoughData {
@@ -91,7 +91,7 @@ pub fn read_time(payload: &[u8]) -> DescriptorRead
 
 // Any other tag or identifier: all of the payload.
 pub fn read_reserved(tag: u8, payload: &[u8]) -> DescriptorRead
-    ensures { result ≡ reservedOf tag payload.now }
+    ensures { result ≡ reserved_of tag payload.now }
 {
     DescriptorRead::Is(Descriptor::Reserved {
         tag,

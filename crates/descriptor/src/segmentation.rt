@@ -1,8 +1,8 @@
 // Segmentation descriptors.
 ghost use Rattle.std.specs.Prelude.{◌≡◌, ◌*◌};
-ghost use Rattle.descriptor.specs.Descriptor.{reportedUpid, activeWith, activeOf, segmentationOf};
+ghost use Rattle.descriptor.specs.Descriptor.{reported_upid, active_with, active_of, segmentation_of};
 ghost use Rattle.descriptor.specs.Segmentation.{head};
-ghost use Rattle.descriptor.specs.Private.{upidChecked, headRead};
+ghost use Rattle.descriptor.specs.Private.{upid_checked, head_read};
 ghost use Rattle.table.specs.Bits.{bits_of};
 ghost use Rattle.table.specs.Table.{parse};
 
@@ -109,7 +109,7 @@ enum UpidChecked {
 
 // A UPID that its rules accept. Where there are no bytes to view, or they stand beside the descriptor, the view is blank.
 fn reported(upid_type: u8, bytes: View) -> SegmentationUpid
-    ensures { result ≡ reportedUpid upid_type bytes }
+    ensures { result ≡ reported_upid upid_type bytes }
 {
     match upid_type {
         0 | 10 => SegmentationUpid {
@@ -122,7 +122,7 @@ fn reported(upid_type: u8, bytes: View) -> SegmentationUpid
 
 // A UPID as written, by its own rules: with its reported type, or refused, with a view that counts from the payload's start.
 fn checked_upid(payload: &[u8], written: SegmentationUpid) -> UpidChecked
-    ensures { result ≡ upidChecked payload.now written }
+    ensures { result ≡ upid_checked payload.now written }
 {
     let bytes = written.bytes;
     let part = view(payload, bytes);
@@ -161,7 +161,7 @@ fn active_with(
     segmentation_upid: SegmentationUpid,
     back: Back,
 ) -> DescriptorRead
-    ensures { result ≡ activeWith event front segmentation_upid back }
+    ensures { result ≡ active_with event front segmentation_upid back }
 {
     let delivery_restrictions = front.delivery_restrictions;
     let segmentation_mode = front.segmentation_mode;
@@ -188,7 +188,7 @@ fn active_with(
 
 // What follows the head of a descriptor that is not cancelled, from byte `at` on.
 fn read_active(payload: &[u8], at: usize, event: u32) -> DescriptorRead
-    ensures { result ≡ activeOf payload.now event (at * 8) }
+    ensures { result ≡ active_of payload.now event (at * 8) }
 {
     let fronted = match read_front(payload, at) {
         FrontRead::Got(f) => f,
@@ -221,7 +221,7 @@ pub(crate) enum HeadRead {
 }
 
 pub(crate) fn read_head(payload: &[u8]) -> HeadRead
-    ensures { headRead result (parse head (bits_of payload.now) 0) }
+    ensures { head_read result (parse head (bits_of payload.now) 0) }
 {
     let left = payload.len();
     if left < 4 {
@@ -244,7 +244,7 @@ pub(crate) fn read_head(payload: &[u8]) -> HeadRead
 
 // Tag 2.
 pub fn read_segmentation(payload: &[u8]) -> DescriptorRead
-    ensures { result ≡ segmentationOf payload.now }
+    ensures { result ≡ segmentation_of payload.now }
 {
     let head = match read_head(payload) {
         HeadRead::Got(h) => h,

@@ -1,6 +1,6 @@
 // Whether the bytes of a descriptor and of a loop are canonical (document 01, "Canonical form and writer"): a walk by byte places that writes nothing.
 ghost use Rattle.std.specs.Prelude.{◌≡◌, ◌<◌};
-ghost use Rattle.canonical_form.specs.Descriptor.{canonicalPayload, canonicalDescriptor, canonicalLoop};
+ghost use Rattle.canonical_form.specs.Descriptor.{canonical_payload, canonical_descriptor, canonical_loop};
 
 use crate::payload::is_canonical_dtmf;
 use crate::segment::is_canonical_segmentation;
@@ -13,7 +13,7 @@ mod segment;
 
 // By identifier and tag. Every payload of a reserved descriptor is canonical.
 fn is_canonical_payload(tag: u8, identifier: [u8; 4], payload: &[u8]) -> bool
-    ensures { result ≡ canonicalPayload tag identifier payload.now }
+    ensures { result ≡ canonical_payload tag identifier payload.now }
 {
     if is_cuei(identifier) {
         return match tag {
@@ -29,7 +29,7 @@ fn is_canonical_payload(tag: u8, identifier: [u8; 4], payload: &[u8]) -> bool
 
 // Whether these are the bytes of one canonical descriptor.
 pub fn is_canonical_descriptor(descriptor: &[u8]) -> bool
-    ensures { result ≡ canonicalDescriptor descriptor.now }
+    ensures { result ≡ canonical_descriptor descriptor.now }
 {
     let end = descriptor.len();
     if end < 6 {
@@ -48,7 +48,7 @@ pub fn is_canonical_descriptor(descriptor: &[u8]) -> bool
 
 // Whether these are the bytes of canonical descriptors, one after the other.
 pub fn is_canonical_loop(descriptors: &[u8]) -> bool
-    ensures { result ≡ canonicalLoop descriptors.now }
+    ensures { result ≡ canonical_loop descriptors.now }
 {
     let mut at: usize = 0;
     while at < descriptors.len() {

@@ -1,16 +1,16 @@
 // The payload of a segmentation descriptor.
 ghost use Rattle.std.specs.Prelude.{◌≡◌, ◌+◌, ◌*◌, ◌≤◌, length};
-ghost use Rattle.canonical_form.specs.Descriptor.{canonicalSegmentation};
+ghost use Rattle.canonical_form.specs.Descriptor.{canonical_segmentation};
 ghost use Rattle.descriptor_measure.specs.Writing.{accepts};
-ghost use Rattle.upid.specs.Upid.{checkOf};
-ghost use Rattle.descriptor_canonical.specs.Private.{flagsOnes, lastingBytes, componentsOnes, ends_at, upidAt, componentsAt, activeFits};
+ghost use Rattle.upid.specs.Upid.{check_of};
+ghost use Rattle.descriptor_canonical.specs.Private.{flags_ones, lasting_bytes, components_ones, ends_at, upid_at, components_at, active_fits};
 
 use table::numbers::size;
 use upid::{UpidRead, check_upid};
 
 // The three flags of a byte: where delivery is not restricted, its other five bits are reserved.
 fn flags_ones(b: u8) -> bool
-    ensures { result ≡ flagsOnes b }
+    ensures { result ≡ flags_ones b }
 {
     if b / 32 % 2 == 1 {
         return b % 32 == 31;
@@ -20,7 +20,7 @@ fn flags_ones(b: u8) -> bool
 
 // The bytes of the duration.
 fn lasting_bytes(b: u8) -> usize
-    ensures { (result ≡ lastingBytes b) × (result ≤ 5) }
+    ensures { (result ≡ lasting_bytes b) × (result ≤ 5) }
 {
     if b / 64 % 2 == 1 {
         return 5;
@@ -31,7 +31,7 @@ fn lasting_bytes(b: u8) -> usize
 // The seven reserved bits of each of n components, six bytes each, from byte 7 on.
 fn components_ones(s: &[u8], n: usize) -> bool
     requires { (n ≤ 255) × (7 + n * 6 ≤ length s.now) }
-    ensures { result ≡ componentsOnes n s.now 7 }
+    ensures { result ≡ components_ones n s.now 7 }
 {
     let mut i: usize = 0;
     while i < n {
@@ -56,7 +56,7 @@ fn ends_at(len: usize, at: usize) -> bool
 
 // Whether its reader takes a UPID.
 fn is_accepted(upid_type: u8, bytes: &[u8]) -> bool
-    ensures { result ≡ accepts (checkOf upid_type bytes.now) }
+    ensures { result ≡ accepts (check_of upid_type bytes.now) }
 {
     match check_upid(upid_type, bytes) {
         UpidRead::Fine(_) => true,
@@ -67,7 +67,7 @@ fn is_accepted(upid_type: u8, bytes: &[u8]) -> bool
 // From the UPID at a byte to the payload's end. An empty one has type 0.
 fn is_canonical_upid(s: &[u8], at: usize) -> bool
     requires { at ≤ 2048 }
-    ensures { result ≡ upidAt s.now at }
+    ensures { result ≡ upid_at s.now at }
 {
     let end = s.len();
     if end < at + 5 {
@@ -89,7 +89,7 @@ fn is_canonical_upid(s: &[u8], at: usize) -> bool
 // From the count of components at byte 6 to the payload's end, where the duration takes some bytes.
 fn is_canonical_by_components(s: &[u8], lasting: usize) -> bool
     requires { lasting ≤ 5 }
-    ensures { result ≡ componentsAt s.now lasting }
+    ensures { result ≡ components_at s.now lasting }
 {
     if s.len() < 7 {
         return false;
@@ -107,7 +107,7 @@ fn is_canonical_by_components(s: &[u8], lasting: usize) -> bool
 
 // From the three flags at byte 5 to the payload's end.
 fn is_canonical_active(s: &[u8]) -> bool
-    ensures { result ≡ activeFits s.now }
+    ensures { result ≡ active_fits s.now }
 {
     if s.len() < 6 {
         return false;
@@ -125,7 +125,7 @@ fn is_canonical_active(s: &[u8]) -> bool
 
 // A cancelled one ends after its first five bytes.
 pub(crate) fn is_canonical_segmentation(s: &[u8]) -> bool
-    ensures { result ≡ canonicalSegmentation s.now }
+    ensures { result ≡ canonical_segmentation s.now }
 {
     if s.len() < 5 {
         return false;

@@ -10,10 +10,10 @@ use lib.ListN.{length, take, drop, get_or, length-take, length-drop}
 use lib.Seq.{drop-cons}
 use Rattle.table.specs.declared.View.{View}
 use Rattle.upid.specs.declared.Refusal.{Refusal}
-use Rattle.descriptor.specs.Descriptor.{movedRefusal, descriptorOf}
-use Rattle.descriptor.specs.Views.{descriptorViews, refusalViews}
-use Rattle.descriptor.specs.Private.{readViews}
-use Rattle.descriptor.specs.Full.{identifierRead}
+use Rattle.descriptor.specs.Descriptor.{moved_refusal, descriptor_of}
+use Rattle.descriptor.specs.Views.{descriptor_views, refusal_views}
+use Rattle.descriptor.specs.Private.{read_views}
+use Rattle.descriptor.specs.Full.{identifier_read}
 use Rattle.descriptor.specs.declared.Descriptor.{Descriptor}
 use Rattle.descriptor.specs.declared.Descriptor.TheVariants.{Avail, Dtmf, Segmentation, Time, Reserved}
 use Rattle.descriptor.specs.declared.DescriptorRead.{DescriptorRead}
@@ -22,35 +22,35 @@ use Rattle.descriptor.specs.declared.plain.AvailDescriptor.{AvailDescriptor}
 use Rattle.descriptor.specs.declared.plain.DTMFDescriptor.{DTMFDescriptor}
 use Rattle.descriptor.specs.declared.plain.TimeDescriptor.{TimeDescriptor}
 use Rattle.descriptor.specs.declared.segmentation.SegmentationDescriptor.{SegmentationDescriptor}
-use Rattle.descriptor.proofs.Insides.{read-inside}
-use Rattle.descriptor_loop.specs.Items.{withoutIdentifier, item_at, readAt, completeAt}
-use Rattle.descriptor_loop.specs.Place.{movedDescriptor}
+use Rattle.descriptor.proofs.Insides.{read_inside}
+use Rattle.descriptor_loop.specs.Items.{without_identifier, item_at, read_at, complete_at}
+use Rattle.descriptor_loop.specs.Place.{moved_descriptor}
 use Rattle.descriptor_loop.specs.Private.{Movable}
 use Rattle.descriptor_loop.specs.declared.Item.{Item}
 use Rattle.descriptor_loop.specs.declared.Item.TheVariants.{Refused, Is}
 use Rattle.descriptor_loop.specs.declared.ItemRefusal.TheVariants.{Other}
 use Rattle.descriptor_loop.specs.declared.Step.{Step}
-use Rattle.descriptor_loop.proofs.Places.{all-into}
+use Rattle.descriptor_loop.proofs.Places.{all_into}
 
 -- ---- a part of the loop and its reading
 
 module _ (loop : List ℕ) (start n tag : ℕ) (id : List ℕ) (r : DescriptorRead) where
-  movable : r ≡ descriptorOf tag id (take n (drop start loop)) → length loop ≤ 4076 → start ≤ 4076 → Movable start (readViews r)
+  movable : r ≡ descriptor_of tag id (take n (drop start loop)) → length loop ≤ 4076 → start ≤ 4076 → Movable start (read_views r)
   movable e fits h =
       let size = length-take n (drop start loop) in
       let left = length-drop start loop in
-      rw e (all-into (λ v i. omega (arith, size, left, i)) (read-inside tag id (take n (drop start loop))))
+      rw e (all_into (λ v i. omega (arith, size, left, i)) (read_inside tag id (take n (drop start loop))))
 
-  pub is-movable : (d : Descriptor) → r ≡ descriptorOf tag id (take n (drop start loop)) → r ≡ read.Is d → length loop ≤ 4076 → start ≤ 4076 → Movable start (descriptorViews d)
-  is-movable d e f fits h = rw f at (movable e fits h)
+  pub is_movable : (d : Descriptor) → r ≡ descriptor_of tag id (take n (drop start loop)) → r ≡ read.Is d → length loop ≤ 4076 → start ≤ 4076 → Movable start (descriptor_views d)
+  is_movable d e f fits h = rw f at (movable e fits h)
 
-  pub refused-movable : (q : Refusal) → r ≡ descriptorOf tag id (take n (drop start loop)) → r ≡ read.Refused q → length loop ≤ 4076 → start ≤ 4076 → Movable start (refusalViews q)
-  refused-movable q e f fits h = rw f at (movable e fits h)
+  pub refused_movable : (q : Refusal) → r ≡ descriptor_of tag id (take n (drop start loop)) → r ≡ read.Refused q → length loop ≤ 4076 → start ≤ 4076 → Movable start (refusal_views q)
+  refused_movable q e f fits h = rw f at (movable e fits h)
 
 -- ---- the answer
 
-part-cons : (s : List ℕ) (i n : ℕ) → i < length s → take (suc n) (drop i s) ≡ get_or s i 0 ∷ take n (drop (i + 1) s)
-part-cons s i n h = rw (add-one, drop-cons s i 0)
+part_cons : (s : List ℕ) (i n : ℕ) → i < length s → take (suc n) (drop i s) ≡ get_or s i 0 ∷ take n (drop (i + 1) s)
+part_cons s i n h = rw (add-one, drop-cons s i 0)
 
 -- the four bytes of the identifier
 four : List ℕ → ℕ → List ℕ
@@ -62,44 +62,44 @@ four_is s at h =
     let e3 : at + 2 + 1 ≡ at + 3 = omega arith in
     let e4 : at + 3 + 1 ≡ at + 4 = omega arith in
     let e5 : at + 4 + 1 ≡ at + 5 = omega arith in
-    cc (part-cons s (at + 2) 3 (omega arith), part-cons s (at + 3) 2 (omega arith), part-cons s (at + 4) 1 (omega arith), part-cons s (at + 5) 0 (omega arith))
+    cc (part_cons s (at + 2) 3 (omega arith), part_cons s (at + 3) 2 (omega arith), part_cons s (at + 4) 1 (omega arith), part_cons s (at + 5) 0 (omega arith))
 
 module _ (loop : List ℕ) (offset L : ℕ) (h : 4 ≤ L) (there : offset + (L + 2) ≤ length loop) (r : DescriptorRead)
-    (is : r ≡ descriptorOf (get_or loop offset 0) (get_or loop (offset + 2) 0 ∷ get_or loop (offset + 3) 0 ∷ get_or loop (offset + 4) 0 ∷ get_or loop (offset + 5) 0 ∷ []) (take (offset + (L + 2) - (offset + 6)) (drop (offset + 6) loop))) where
+    (is : r ≡ descriptor_of (get_or loop offset 0) (get_or loop (offset + 2) 0 ∷ get_or loop (offset + 3) 0 ∷ get_or loop (offset + 4) 0 ∷ get_or loop (offset + 5) 0 ∷ []) (take (offset + (L + 2) - (offset + 6)) (drop (offset + 6) loop))) where
   abbrev name : List ℕ
   name = get_or loop (offset + 2) 0 ∷ get_or loop (offset + 3) 0 ∷ get_or loop (offset + 4) 0 ∷ get_or loop (offset + 5) 0 ∷ []
 
-  reading : r ≡ readAt loop offset L
-  unfolding readAt four
+  reading : r ≡ read_at loop offset L
+  unfolding read_at four
   reading =
       let n : offset + (L + 2) - (offset + 6) ≡ L - 4 = omega arith in
       is ∙ rw (n, four_is loop offset (omega arith))
 
-  answer : (i : Item) (id : List ℕ) → i ≡ item_at (offset + 6) r → id ≡ identifierRead r name → ◌≡◌ {A = Step} (record { item = i; identifier = id; next = offset + (L + 2) }) (completeAt loop offset L)
-  unfolding completeAt four
+  answer : (i : Item) (id : List ℕ) → i ≡ item_at (offset + 6) r → id ≡ identifier_read r name → ◌≡◌ {A = Step} (record { item = i; identifier = id; next = offset + (L + 2) }) (complete_at loop offset L)
+  unfolding complete_at four
   answer i id e beside = rw (e, beside, four_is loop offset (omega arith), reading)
 
   -- an item at its place, which was read as d
-  placed : (d m : Descriptor) (id : List ℕ) → r ≡ read.Is d → m ≡ movedDescriptor (offset + 6) d → id ≡ identifierRead (read.Is d) name
-      → ◌≡◌ {A = Step} (record { item = Is m; identifier = id; next = offset + (L + 2) }) (completeAt loop offset L)
-  placed d m id e f g = answer (Is m) id (ap Is f ∙ sym (ap (item_at (offset + 6)) e)) (g ∙ sym (ap (λ (x : DescriptorRead). identifierRead x name) e))
+  placed : (d m : Descriptor) (id : List ℕ) → r ≡ read.Is d → m ≡ moved_descriptor (offset + 6) d → id ≡ identifier_read (read.Is d) name
+      → ◌≡◌ {A = Step} (record { item = Is m; identifier = id; next = offset + (L + 2) }) (complete_at loop offset L)
+  placed d m id e f g = answer (Is m) id (ap Is f ∙ sym (ap (item_at (offset + 6)) e)) (g ∙ sym (ap (λ (x : DescriptorRead). identifier_read x name) e))
 
-  pub avail-is : (d : Descriptor) (x : AvailDescriptor) → r ≡ read.Is d → d ≡ Avail x → withoutIdentifier (Is d) (offset + (L + 2)) ≡ completeAt loop offset L
-  avail-is d x e f = placed d d _ e (f ∙ sym (ap (movedDescriptor (offset + 6)) f)) (sym (ap (λ (y : Descriptor). identifierRead (read.Is y) name) f))
+  pub avail_is : (d : Descriptor) (x : AvailDescriptor) → r ≡ read.Is d → d ≡ Avail x → without_identifier (Is d) (offset + (L + 2)) ≡ complete_at loop offset L
+  avail_is d x e f = placed d d _ e (f ∙ sym (ap (moved_descriptor (offset + 6)) f)) (sym (ap (λ (y : Descriptor). identifier_read (read.Is y) name) f))
 
-  pub dtmf-is : (d m : Descriptor) (x : DTMFDescriptor) → r ≡ read.Is d → d ≡ Dtmf x → m ≡ movedDescriptor (offset + 6) d → withoutIdentifier (Is m) (offset + (L + 2)) ≡ completeAt loop offset L
-  dtmf-is d m x e f g = placed d m _ e g (sym (ap (λ (y : Descriptor). identifierRead (read.Is y) name) f))
+  pub dtmf_is : (d m : Descriptor) (x : DTMFDescriptor) → r ≡ read.Is d → d ≡ Dtmf x → m ≡ moved_descriptor (offset + 6) d → without_identifier (Is m) (offset + (L + 2)) ≡ complete_at loop offset L
+  dtmf_is d m x e f g = placed d m _ e g (sym (ap (λ (y : Descriptor). identifier_read (read.Is y) name) f))
 
-  pub segmentation-is : (d m : Descriptor) (x : SegmentationDescriptor) → r ≡ read.Is d → d ≡ Segmentation x → m ≡ movedDescriptor (offset + 6) d → withoutIdentifier (Is m) (offset + (L + 2)) ≡ completeAt loop offset L
-  segmentation-is d m x e f g = placed d m _ e g (sym (ap (λ (y : Descriptor). identifierRead (read.Is y) name) f))
+  pub segmentation_is_lem : (d m : Descriptor) (x : SegmentationDescriptor) → r ≡ read.Is d → d ≡ Segmentation x → m ≡ moved_descriptor (offset + 6) d → without_identifier (Is m) (offset + (L + 2)) ≡ complete_at loop offset L
+  segmentation_is_lem d m x e f g = placed d m _ e g (sym (ap (λ (y : Descriptor). identifier_read (read.Is y) name) f))
 
-  pub time-is : (d : Descriptor) (x : TimeDescriptor) → r ≡ read.Is d → d ≡ Time x → withoutIdentifier (Is d) (offset + (L + 2)) ≡ completeAt loop offset L
-  time-is d x e f = placed d d _ e (f ∙ sym (ap (movedDescriptor (offset + 6)) f)) (sym (ap (λ (y : Descriptor). identifierRead (read.Is y) name) f))
+  pub time_is : (d : Descriptor) (x : TimeDescriptor) → r ≡ read.Is d → d ≡ Time x → without_identifier (Is d) (offset + (L + 2)) ≡ complete_at loop offset L
+  time_is d x e f = placed d d _ e (f ∙ sym (ap (moved_descriptor (offset + 6)) f)) (sym (ap (λ (y : Descriptor). identifier_read (read.Is y) name) f))
 
-  pub reserved-is : (d m : Descriptor) (tag : ℕ) (v : View) → r ≡ read.Is d → d ≡ Reserved tag v → m ≡ movedDescriptor (offset + 6) d
-      → ◌≡◌ {A = Step} (record { item = Is m; identifier = name; next = offset + (L + 2) }) (completeAt loop offset L)
-  reserved-is d m tag v e f g = placed d m name e g (sym (ap (λ (y : Descriptor). identifierRead (read.Is y) name) f))
+  pub reserved_is : (d m : Descriptor) (tag : ℕ) (v : View) → r ≡ read.Is d → d ≡ Reserved tag v → m ≡ moved_descriptor (offset + 6) d
+      → ◌≡◌ {A = Step} (record { item = Is m; identifier = name; next = offset + (L + 2) }) (complete_at loop offset L)
+  reserved_is d m tag v e f g = placed d m name e g (sym (ap (λ (y : Descriptor). identifier_read (read.Is y) name) f))
 
-  pub complete-refused : (q m : Refusal) → r ≡ read.Refused q → m ≡ movedRefusal (offset + 6) q → withoutIdentifier (Refused (Other m)) (offset + (L + 2)) ≡ completeAt loop offset L
-  complete-refused q m e f =
-      answer (Refused (Other m)) _ (ap (λ (x : Refusal). Refused (Other x)) f ∙ sym (ap (item_at (offset + 6)) e)) (sym (ap (λ (x : DescriptorRead). identifierRead x name) e))
+  pub complete_refused : (q m : Refusal) → r ≡ read.Refused q → m ≡ moved_refusal (offset + 6) q → without_identifier (Refused (Other m)) (offset + (L + 2)) ≡ complete_at loop offset L
+  complete_refused q m e f =
+      answer (Refused (Other m)) _ (ap (λ (x : Refusal). Refused (Other x)) f ∙ sym (ap (item_at (offset + 6)) e)) (sym (ap (λ (x : DescriptorRead). identifier_read x name) e))

@@ -11,37 +11,37 @@ use native.Mathlib.Omega.{arith}
 use lib.ListN.{length}
 use borrow.Author.Tests.{lt-ltb, le-ltb}
 use Rattle.upid.proofs.Laws.{by_cases}
-use Rattle.descriptor_loop.specs.Items.{step_of, Listed, listed, itemsFrom, items_of, count_of}
+use Rattle.descriptor_loop.specs.Items.{step_of, Listed, listed, items_from, items_of, count_of}
 use Rattle.descriptor_loop.specs.declared.Step.{Step}
 use Rattle.descriptor_loop.specs.declared.iteration.Counted.TheVariants.{Are}
-use Rattle.descriptor_loop.proofs.Steps.{step_end, Turn, ends, goes, turn, goes_on, forward, within}
+use Rattle.descriptor_loop.proofs.Steps.{step_end, Turn, ends, goes, turn, goes_on_lem, forward, within}
 
 module _ (loop : List ℕ) (fits : length loop ≤ 4076) where
-  from_end : (n offset : ℕ) → length loop ≤ offset → itemsFrom n loop offset ≡ []
-  unfolding itemsFrom
+  from_end : (n offset : ℕ) → length loop ≤ offset → items_from n loop offset ≡ []
+  unfolding items_from
   from_end zero offset h = refl
   from_end (suc n) offset h = rw (step_end loop offset fits h)
 
-  from_more : (n offset : ℕ) → offset < length loop → itemsFrom (suc n) loop offset ≡ listed loop offset ∷ itemsFrom n loop (step_of loop offset).next
-  unfolding itemsFrom
-  from_more n offset inside = goes_on loop offset fits inside (listed loop offset ∷ itemsFrom n loop (step_of loop offset).next)
+  from_more : (n offset : ℕ) → offset < length loop → items_from (suc n) loop offset ≡ listed loop offset ∷ items_from n loop (step_of loop offset).next
+  unfolding items_from
+  from_more n offset inside = goes_on_lem loop offset fits inside (listed loop offset ∷ items_from n loop (step_of loop offset).next)
 
-  pub from-any : (n m offset : ℕ) → length loop - offset ≤ n → length loop - offset ≤ m → itemsFrom n loop offset ≡ itemsFrom m loop offset
-  from-any zero m offset hn hm = from_end zero offset (omega arith) ∙ sym (from_end m offset (omega arith))
-  from-any (suc n) zero offset hn hm = from_end (suc n) offset (omega arith) ∙ sym (from_end zero offset (omega arith))
-  from-any (suc n) (suc m) offset hn hm =
+  pub from_any : (n m offset : ℕ) → length loop - offset ≤ n → length loop - offset ≤ m → items_from n loop offset ≡ items_from m loop offset
+  from_any zero m offset hn hm = from_end zero offset (omega arith) ∙ sym (from_end m offset (omega arith))
+  from_any (suc n) zero offset hn hm = from_end (suc n) offset (omega arith) ∙ sym (from_end zero offset (omega arith))
+  from_any (suc n) (suc m) offset hn hm =
       by_cases offset (length loop)
       (λ inside.
       let f : offset < (step_of loop offset).next = forward inside (turn loop offset fits inside) in
-      let after : itemsFrom n loop (step_of loop offset).next ≡ itemsFrom m loop (step_of loop offset).next =
-      from-any n m (step_of loop offset).next (omega arith) (omega arith) in
+      let after : items_from n loop (step_of loop offset).next ≡ items_from m loop (step_of loop offset).next =
+      from_any n m (step_of loop offset).next (omega arith) (omega arith) in
       rw (from_more n offset inside, from_more m offset inside, after))
       (λ h. from_end (suc n) offset h ∙ sym (from_end (suc m) offset h))
 
   -- ---- the items from an offset on
 
   abbrev pub rest : ℕ → List Listed
-  rest offset = itemsFrom (length loop - offset) loop offset
+  rest offset = items_from (length loop - offset) loop offset
 
   pub rest_end : (offset : ℕ) → length loop ≤ offset → rest offset ≡ []
   rest_end offset h = from_end (length loop - offset) offset h
@@ -50,17 +50,17 @@ module _ (loop : List ℕ) (fits : length loop ≤ 4076) where
   rest_more offset inside =
       let f : offset < (step_of loop offset).next = forward inside (turn loop offset fits inside) in
       let n : length loop - offset ≡ suc (length loop - suc offset) = omega arith in
-      let after : itemsFrom (length loop - suc offset) loop (step_of loop offset).next ≡ rest (step_of loop offset).next =
-      from-any (length loop - suc offset) (length loop - (step_of loop offset).next) (step_of loop offset).next (omega arith) (omega arith) in
-      ap (λ (k : ℕ). itemsFrom k loop offset) n ∙ from_more (length loop - suc offset) offset inside ∙ ap (λ (xs : List Listed). listed loop offset ∷ xs) after
+      let after : items_from (length loop - suc offset) loop (step_of loop offset).next ≡ rest (step_of loop offset).next =
+      from_any (length loop - suc offset) (length loop - (step_of loop offset).next) (step_of loop offset).next (omega arith) (omega arith) in
+      ap (λ (k : ℕ). items_from k loop offset) n ∙ from_more (length loop - suc offset) offset inside ∙ ap (λ (xs : List Listed). listed loop offset ∷ xs) after
 
-  pub items-rest : items_of loop ≡ rest 0
+  pub items_rest : items_of loop ≡ rest 0
   unfolding items_of
-  items-rest = rw (le-ltb _ _ fits) (from-any (length loop) (length loop - 0) 0 (omega arith) (omega arith))
+  items_rest = rw (le-ltb _ _ fits) (from_any (length loop) (length loop - 0) 0 (omega arith) (omega arith))
 
-pub items-none : (loop : List ℕ) → 4076 < length loop → items_of loop ≡ []
+pub items_none : (loop : List ℕ) → 4076 < length loop → items_of loop ≡ []
 unfolding items_of
-items-none loop h = rw (lt-ltb _ _ h)
+items_none loop h = rw (lt-ltb _ _ h)
 
 -- ---- one turn after the other
 
@@ -70,9 +70,9 @@ pub data Walked (loop : List ℕ) : ℕ → List Listed → Type 0 where
       → Walked loop offset (listed loop offset ∷ xs)
 
 -- nothing follows the loop's end
-pub at-end : {loop : List ℕ} {at : ℕ} {xs : List Listed} → Walked loop at xs → at ≡ length loop → xs ≡ []
-at-end stop e = refl
-at-end (step inside f t w) e = absurd (omega arith)
+pub at_end : {loop : List ℕ} {at : ℕ} {xs : List Listed} → Walked loop at xs → at ≡ length loop → xs ≡ []
+at_end stop e = refl
+at_end (step inside f t w) e = absurd (omega arith)
 
 module _ (loop : List ℕ) (fits : length loop ≤ 4076) where
   walk : (n offset : ℕ) → length loop - offset ≤ n → offset ≤ length loop → Walked loop offset (rest loop fits offset)
@@ -90,40 +90,40 @@ module _ (loop : List ℕ) (fits : length loop ≤ 4076) where
       rw (rest_end loop fits offset l, e) stop)
 
   pub walked : Walked loop 0 (items_of loop)
-  walked = rw (items-rest loop fits) (walk (length loop) 0 (omega arith) (omega arith))
+  walked = rw (items_rest loop fits) (walk (length loop) 0 (omega arith) (omega arith))
 
 -- ---- how many
 
 module _ (loop : List ℕ) where
-  pub counted_none : length loop ≤ 4076 → 0 + length (itemsFrom (length loop - 0) loop 0) ≡ length (items_of loop)
-  counted_none fits = omega (arith, ap length (items-rest loop fits))
+  pub counted_none : length loop ≤ 4076 → 0 + length (items_from (length loop - 0) loop 0) ≡ length (items_of loop)
+  counted_none fits = omega (arith, ap length (items_rest loop fits))
 
   -- a step, with its answer
   module _ (offset : ℕ) (s : Step) (fits : length loop ≤ 4076) (inside : offset < length loop) (e : s ≡ step_of loop offset) where
-    pub step-forward : (offset < s.next) × (s.next ≤ length loop)
-    step-forward = rw e (forward inside (turn loop offset fits inside), within (turn loop offset fits inside))
+    pub step_forward : (offset < s.next) × (s.next ≤ length loop)
+    step_forward = rw e (forward inside (turn loop offset fits inside), within (turn loop offset fits inside))
 
-  pub counted-one : (offset count : ℕ) (s : Step) → length loop ≤ 4076 → offset < length loop → s ≡ step_of loop offset
-      → count + length (itemsFrom (length loop - offset) loop offset) ≡ length (items_of loop)
-      → count + 1 + length (itemsFrom (length loop - s.next) loop s.next) ≡ length (items_of loop)
-  counted-one offset count s fits inside e h = rw e (omega (arith, ap length (rest_more loop fits offset inside)))
+  pub counted_one : (offset count : ℕ) (s : Step) → length loop ≤ 4076 → offset < length loop → s ≡ step_of loop offset
+      → count + length (items_from (length loop - offset) loop offset) ≡ length (items_of loop)
+      → count + 1 + length (items_from (length loop - s.next) loop s.next) ≡ length (items_of loop)
+  counted_one offset count s fits inside e h = rw e (omega (arith, ap length (rest_more loop fits offset inside)))
 
-  pub counted-all : (offset count : ℕ) → length loop ≤ 4076 → length loop ≤ offset
-      → count + length (itemsFrom (length loop - offset) loop offset) ≡ length (items_of loop) → Are count ≡ count_of loop
+  pub counted_all : (offset count : ℕ) → length loop ≤ 4076 → length loop ≤ offset
+      → count + length (items_from (length loop - offset) loop offset) ≡ length (items_of loop) → Are count ≡ count_of loop
   unfolding count_of
-  counted-all offset count fits past h =
+  counted_all offset count fits past h =
       let n : count ≡ length (items_of loop) = omega (arith, ap length (rest_end loop fits offset past)) in
       rw (le-ltb _ _ fits, n)
 
-few-from : {loop : List ℕ} {offset : ℕ} {xs : List Listed} (m : ℕ) → Walked loop offset xs → length loop - offset ≤ m → 4 ≤ m → 2 * length xs + 2 ≤ m
-few-from m stop h four = omega arith
-few-from m (step inside e (ends x) w) h four = omega (arith, ap length (at-end w refl))
-few-from m (step inside e (goes L s) w) h four =
-    let again = few-from (m - 2) w (omega (arith, s.six)) (omega (arith, s.six)) in
+few_from : {loop : List ℕ} {offset : ℕ} {xs : List Listed} (m : ℕ) → Walked loop offset xs → length loop - offset ≤ m → 4 ≤ m → 2 * length xs + 2 ≤ m
+few_from m stop h four = omega arith
+few_from m (step inside e (ends x) w) h four = omega (arith, ap length (at_end w refl))
+few_from m (step inside e (goes L s) w) h four =
+    let again = few_from (m - 2) w (omega (arith, s.six)) (omega (arith, s.six)) in
     omega (arith, s.six)
 
-pub few-items : (loop : List ℕ) → length (items_of loop) ≤ 2037
-few-items loop =
+pub few_items : (loop : List ℕ) → length (items_of loop) ≤ 2037
+few_items loop =
     by_cases 4076 (length loop)
-    (λ h. rw (items-none loop h) (omega arith))
-    (λ fits. omega (arith, few-from 4076 (walked loop fits) (omega arith) (omega arith)))
+    (λ h. rw (items_none loop h) (omega arith))
+    (λ fits. omega (arith, few_from 4076 (walked loop fits) (omega arith) (omega arith)))

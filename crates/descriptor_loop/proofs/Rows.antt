@@ -6,14 +6,14 @@ use lib.ListN.{replicate}
 use Rattle.table.specs.Lent.{viewed}
 use Rattle.table.specs.Table.{number, bit, reserved, part, remaining, list}
 use Rattle.upid.specs.Upid as upid
-use Rattle.descriptor.specs.Descriptor.{descriptorOf, isCuei, availOf, dtmfOf, segmentationOf, activeOf, activeWith, reservedOf}
-use Rattle.descriptor.specs.Plain.{avail, dtmf, privateBytes}
-use Rattle.descriptor.specs.Segmentation.{blankComponent, deliveryRestrictions, component, mode, duration, writtenUpid, parts, front, subSegments, back, head, segmentation}
-use Rattle.descriptor.specs.Full.{filled, besideIn, besideOf}
+use Rattle.descriptor.specs.Descriptor.{descriptor_of, is_cuei, avail_of, dtmf_of, segmentation_of, active_of, active_with, reserved_of}
+use Rattle.descriptor.specs.Plain.{avail, dtmf, private_bytes}
+use Rattle.descriptor.specs.Segmentation.{blank_component, delivery_restrictions, component, mode, duration, written_upid, parts, front, sub_segments, back, head, segmentation}
+use Rattle.descriptor.specs.Full.{filled, beside_in, beside_of}
 use Rattle.descriptor.specs.declared.Descriptor.{Descriptor}
 use Rattle.descriptor.specs.declared.Descriptor.TheVariants.{Avail, Dtmf, Reserved}
-use Rattle.descriptor_loop.specs.Items.{number_of, values_of, readAt, completeAt, step_of, reading_of, Listed, itemsFrom, items_of}
-use Rattle.descriptor_loop.specs.Place.{viewOf}
+use Rattle.descriptor_loop.specs.Items.{number_of, values_of, read_at, complete_at, step_of, reading_of, Listed, items_from, items_of}
+use Rattle.descriptor_loop.specs.Place.{view_of}
 use Rattle.descriptor_loop.specs.declared.Item.{Item}
 use Rattle.descriptor_loop.specs.declared.Item.TheVariants.{End, Refused, Is}
 
@@ -26,7 +26,7 @@ pub data Told : Type 0 where
 abbrev pub tells : List ℕ → ℕ → ℕ → List ℕ → Item → Told
 tells loop offset used id End = ended
 tells loop offset used id (Refused r) = refused offset used (number_of r) (values_of r)
-tells loop offset used id (Is d) = read offset used d id (viewed loop (viewOf (Is d)))
+tells loop offset used id (Is d) = read offset used d id (viewed loop (view_of (Is d)))
 
 abbrev pub told : List ℕ → Listed → Told
 told loop x = tells loop x.offset x.used x.step.identifier x.step.item
@@ -69,16 +69,16 @@ pub data Hold : List Row → Type 0 where
   none : Hold []
   more : {r : Row} {rs : List Row} → map (told r.loop) (items_of r.loop) ≡ r.items → Hold rs → Hold (r ∷ rs)
 
-pub rows-hold : Hold rows
-unfolding rows items_of itemsFrom step_of completeAt readAt number_of values_of upid.number_of upid.values_of descriptorOf isCuei availOf dtmfOf reservedOf avail dtmf privateBytes number reserved part remaining viewed
-rows-hold = more refl (more refl (more refl (more refl (more refl (more refl (more refl (more refl none)))))))
+pub rows_hold : Hold rows
+unfolding rows items_of items_from step_of complete_at read_at number_of values_of upid.number_of upid.values_of descriptor_of is_cuei avail_of dtmf_of reserved_of avail dtmf private_bytes number reserved part remaining viewed
+rows_hold = more refl (more refl (more refl (more refl (more refl (more refl (more refl (more refl none)))))))
 
 -- ---- beside a segmentation descriptor: its one component, tag 5 and offset 7, then blanks; and the 12 bytes of its EIDR
-pub row-beside : (reading_of (0x02 ∷ 0x22 ∷ C (0 ∷ 0 ∷ 0 ∷ 0x2A ∷ 0x7F ∷ 0x3F ∷ 1 ∷ 5 ∷ 0xFE ∷ 0 ∷ 0 ∷ 0 ∷ 7
+pub row_beside : (reading_of (0x02 ∷ 0x22 ∷ C (0 ∷ 0 ∷ 0 ∷ 0x2A ∷ 0x7F ∷ 0x3F ∷ 1 ∷ 5 ∷ 0xFE ∷ 0 ∷ 0 ∷ 0 ∷ 7
     ∷ 0x0A ∷ 12 ∷ 1 ∷ 2 ∷ 3 ∷ 4 ∷ 5 ∷ 6 ∷ 7 ∷ 8 ∷ 9 ∷ 10 ∷ 11 ∷ 12 ∷ 0x10 ∷ 1 ∷ 1 ∷ [])) 0).beside
     ≡ record {
-      components = record { component_tag = 5; pts_offset = 7 } ∷ replicate 254 blankComponent;
+      components = record { component_tag = 5; pts_offset = 7 } ∷ replicate 254 blank_component;
       eidr = 1 ∷ 2 ∷ 3 ∷ 4 ∷ 5 ∷ 6 ∷ 7 ∷ 8 ∷ 9 ∷ 10 ∷ 11 ∷ 12 ∷ [];
     }
-unfolding reading_of step_of completeAt readAt descriptorOf isCuei segmentationOf activeOf activeWith head front parts deliveryRestrictions mode component duration writtenUpid back subSegments segmentation number bit reserved part remaining list viewed upid.checkOf upid.read_of upid.plain_of upid.length_of upid.isText upid.reportedOf besideOf besideIn filled upid.eidrOf
-row-beside = refl
+unfolding reading_of step_of complete_at read_at descriptor_of is_cuei segmentation_of active_of active_with head front parts delivery_restrictions mode component duration written_upid back sub_segments segmentation number bit reserved part remaining list viewed upid.check_of upid.read_of upid.plain_of upid.length_of upid.is_text upid.reported_of beside_of beside_in filled upid.eidr_of
+row_beside = refl

@@ -15,51 +15,51 @@ use Rattle.upid.specs.Cover.{All, none}
 use Rattle.upid.specs.declared.Refusal.TheVariants.{InputTooLong}
 use Rattle.descriptor.specs.declared.DescriptorRead.{DescriptorRead}
 use Rattle.descriptor.specs.declared.DescriptorRead.TheVariants as read
-use Rattle.descriptor.proofs.Insides.{read-inside}
+use Rattle.descriptor.proofs.Insides.{read_inside}
 use Rattle.descriptor_loop.specs.Cover.{Ends, few, over, full, TakesRest}
-use Rattle.descriptor_loop.specs.Items.{short, withoutIdentifier, item_at, readAt, completeAt, step_of, unlessEnd, Listed}
+use Rattle.descriptor_loop.specs.Items.{short, without_identifier, item_at, read_at, complete_at, step_of, unless_end, Listed}
 use Rattle.table.specs.Lent.{shifted}
-use Rattle.descriptor_loop.specs.Place.{viewsOf}
+use Rattle.descriptor_loop.specs.Place.{views_of}
 use Rattle.descriptor_loop.specs.declared.Item.TheVariants.{End, Refused, Is}
 use Rattle.descriptor_loop.specs.declared.ItemRefusal.{ItemRefusal}
 use Rattle.descriptor_loop.specs.declared.ItemRefusal.TheVariants.{InvalidDescriptorLength, Other}
 use Rattle.descriptor_loop.specs.declared.Step.{Step}
-use Rattle.descriptor_loop.proofs.Places.{all-into, all_map, item-views}
+use Rattle.descriptor_loop.proofs.Places.{all_into, all_map, item_views}
 
 module _ (loop : List ℕ) (offset : ℕ) where
-  pub step-long : 4076 < length loop → step_of loop offset ≡ withoutIdentifier (Refused (Other InputTooLong)) (length loop)
+  pub step_long : 4076 < length loop → step_of loop offset ≡ without_identifier (Refused (Other InputTooLong)) (length loop)
   unfolding step_of
-  step-long h = rw (lt-ltb _ _ h)
+  step_long h = rw (lt-ltb _ _ h)
 
   module _ (fits : length loop ≤ 4076) where
-    pub step_end : length loop ≤ offset → step_of loop offset ≡ withoutIdentifier End (length loop)
+    pub step_end : length loop ≤ offset → step_of loop offset ≡ without_identifier End (length loop)
     unfolding step_of
     step_end h = rw (le-ltb _ _ fits, le-leb _ _ h)
 
     module _ (inside : offset < length loop) where
-      pub step-few : length loop - offset < 6 → step_of loop offset ≡ withoutIdentifier (short 2 0) (length loop)
+      pub step_few : length loop - offset < 6 → step_of loop offset ≡ without_identifier (short 2 0) (length loop)
       unfolding step_of
-      step-few h = rw (le-ltb _ _ fits, lt-leb _ _ inside, lt-ltb _ _ h)
+      step_few h = rw (le-ltb _ _ fits, lt-leb _ _ inside, lt-ltb _ _ h)
 
       -- the length L
       module _ (L : ℕ) (is : L ≡ get_or loop (offset + 1) 0) (six : 6 ≤ length loop - offset) where
-        pub step-over : length loop - offset < L + 2 → step_of loop offset ≡ withoutIdentifier (short (L + 2) 0) (length loop)
+        pub step_over : length loop - offset < L + 2 → step_of loop offset ≡ without_identifier (short (L + 2) 0) (length loop)
         unfolding step_of
-        step-over h = rw (le-ltb _ _ fits, lt-leb _ _ inside, le-ltb _ _ six, ← is, lt-ltb _ _ h)
+        step_over h = rw (le-ltb _ _ fits, lt-leb _ _ inside, le-ltb _ _ six, ← is, lt-ltb _ _ h)
 
         module _ (there : L + 2 ≤ length loop - offset) where
-          pub step-full : 254 < L → step_of loop offset ≡ withoutIdentifier (Refused InvalidDescriptorLength) (length loop)
+          pub step_full : 254 < L → step_of loop offset ≡ without_identifier (Refused InvalidDescriptorLength) (length loop)
           unfolding step_of
-          step-full h = rw (le-ltb _ _ fits, lt-leb _ _ inside, le-ltb _ _ six, ← is, le-ltb _ _ there, lt-ltb _ _ h)
+          step_full h = rw (le-ltb _ _ fits, lt-leb _ _ inside, le-ltb _ _ six, ← is, le-ltb _ _ there, lt-ltb _ _ h)
 
           module _ (right : L ≤ 254) where
-            pub step_small : L < 4 → step_of loop offset ≡ withoutIdentifier (short 6 (L + 2)) (offset + (L + 2))
+            pub step_small : L < 4 → step_of loop offset ≡ without_identifier (short 6 (L + 2)) (offset + (L + 2))
             unfolding step_of
             step_small h = rw (le-ltb _ _ fits, lt-leb _ _ inside, le-ltb _ _ six, ← is, le-ltb _ _ there, le-ltb _ _ right, lt-ltb _ _ h)
 
-            pub step-complete : 4 ≤ L → step_of loop offset ≡ completeAt loop offset L
+            pub step_complete : 4 ≤ L → step_of loop offset ≡ complete_at loop offset L
             unfolding step_of
-            step-complete h = rw (le-ltb _ _ fits, lt-leb _ _ inside, le-ltb _ _ six, ← is, le-ltb _ _ there, le-ltb _ _ right, le-ltb _ _ h)
+            step_complete h = rw (le-ltb _ _ fits, lt-leb _ _ inside, le-ltb _ _ six, ← is, le-ltb _ _ there, le-ltb _ _ right, le-ltb _ _ h)
 
 -- ---- each step is by one of these clauses
 
@@ -72,11 +72,11 @@ pub record Stands (loop : List ℕ) (offset L : ℕ) : Type 0 where
   pub right : L ≤ 254
 
 pub data Clause (loop : List ℕ) (offset : ℕ) : Step → Type 0 where
-  long : 4076 < length loop → Clause loop offset (withoutIdentifier (Refused (Other InputTooLong)) (length loop))
-  ended : length loop ≤ offset → Clause loop offset (withoutIdentifier End (length loop))
-  last : (r : ItemRefusal) → viewsOf (Refused r) ≡ [] → Ends (drop offset loop) → Clause loop offset (withoutIdentifier (Refused r) (length loop))
-  small : (L : ℕ) → Stands loop offset L → Clause loop offset (withoutIdentifier (short 6 (L + 2)) (offset + (L + 2)))
-  entire : (L : ℕ) → Stands loop offset L → 4 ≤ L → Clause loop offset (completeAt loop offset L)
+  long : 4076 < length loop → Clause loop offset (without_identifier (Refused (Other InputTooLong)) (length loop))
+  ended : length loop ≤ offset → Clause loop offset (without_identifier End (length loop))
+  last : (r : ItemRefusal) → views_of (Refused r) ≡ [] → Ends (drop offset loop) → Clause loop offset (without_identifier (Refused r) (length loop))
+  small : (L : ℕ) → Stands loop offset L → Clause loop offset (without_identifier (short 6 (L + 2)) (offset + (L + 2)))
+  entire : (L : ℕ) → Stands loop offset L → 4 ≤ L → Clause loop offset (complete_at loop offset L)
 
 module _ (loop : List ℕ) (offset : ℕ) where
   left_is : length (drop offset loop) ≡ length loop - offset
@@ -91,19 +91,19 @@ module _ (loop : List ℕ) (offset : ℕ) where
         by_cases 254 L
         (λ h.
         let e : Ends (drop offset loop) = full (omega (arith, left_is, second)) (omega (arith, second)) in
-        rw (step-full loop offset fits inside L is six there h) (last InvalidDescriptorLength refl e))
+        rw (step_full loop offset fits inside L is six there h) (last InvalidDescriptorLength refl e))
         (λ right.
         let s : Stands loop offset L = record { fits = fits; is = is; six = omega arith; there = omega arith; right = right } in
         by_cases L 4
         (λ h. rw (step_small loop offset fits inside L is six there right h) (small L s))
-        (λ h. rw (step-complete loop offset fits inside L is six there right h) (entire L s h)))
+        (λ h. rw (step_complete loop offset fits inside L is six there right h) (entire L s h)))
 
     heads : (L : ℕ) → L ≡ get_or loop (offset + 1) 0 → Clause loop offset (step_of loop offset)
     heads L is =
         by_cases (length loop - offset) (L + 2)
         (λ h.
         let e : Ends (drop offset loop) = over (omega (arith, left_is)) (omega (arith, left_is, second)) in
-        rw (step-over loop offset fits inside L is six h) (last _ refl e))
+        rw (step_over loop offset fits inside L is six h) (last _ refl e))
         (λ there. fitting L is there)
 
   begun : length loop ≤ 4076 → offset < length loop → Clause loop offset (step_of loop offset)
@@ -111,13 +111,13 @@ module _ (loop : List ℕ) (offset : ℕ) where
       by_cases (length loop - offset) 6
       (λ h.
       let e : Ends (drop offset loop) = few (omega (arith, left_is)) (omega (arith, left_is)) in
-      rw (step-few loop offset fits inside h) (last _ refl e))
+      rw (step_few loop offset fits inside h) (last _ refl e))
       (λ six. heads fits inside six (get_or loop (offset + 1) 0) refl)
 
   pub clause : Clause loop offset (step_of loop offset)
   clause =
       by_cases 4076 (length loop)
-      (λ h. rw (step-long loop offset h) (long h))
+      (λ h. rw (step_long loop offset h) (long h))
       (λ fits. by_cases offset (length loop) (begun fits) (λ h. rw (step_end loop offset fits h) (ended h)))
 
 -- ---- a step inside a loop
@@ -127,33 +127,33 @@ pub data Turn (loop : List ℕ) (offset : ℕ) : ℕ → Type 0 where
   ends : Ends (drop offset loop) → Turn loop offset (length loop)
   goes : (L : ℕ) → Stands loop offset L → Turn loop offset (offset + (L + 2))
 
-no_end : (base : ℕ) (d : DescriptorRead) (xs : List Listed) → unlessEnd (item_at base d) xs ≡ xs
+no_end : (base : ℕ) (d : DescriptorRead) (xs : List Listed) → unless_end (item_at base d) xs ≡ xs
 no_end base (read.Is d) xs = refl
 no_end base (read.Refused r) xs = refl
 
 module _ (loop : List ℕ) (offset : ℕ) (fits : length loop ≤ 4076) (inside : offset < length loop) where
-  turn_by : {s : Step} → Clause loop offset s → Turn loop offset s.next
-  unfolding completeAt
-  turn_by (long h) = absurd (omega arith)
-  turn_by (ended h) = absurd (omega arith)
-  turn_by (last r v e) = ends e
-  turn_by (small L s) = goes L s
-  turn_by (entire L s h) = goes L s
+  turn_by_lem : {s : Step} → Clause loop offset s → Turn loop offset s.next
+  unfolding complete_at
+  turn_by_lem (long h) = absurd (omega arith)
+  turn_by_lem (ended h) = absurd (omega arith)
+  turn_by_lem (last r v e) = ends e
+  turn_by_lem (small L s) = goes L s
+  turn_by_lem (entire L s h) = goes L s
 
-  goes-on-by : {s : Step} → Clause loop offset s → (xs : List Listed) → unlessEnd s.item xs ≡ xs
-  unfolding completeAt
-  goes-on-by (long h) xs = refl
-  goes-on-by (ended h) xs = absurd (omega arith)
-  goes-on-by (last r v e) xs = refl
-  goes-on-by (small L s) xs = refl
-  goes-on-by (entire L s h) xs = no_end (offset + 6) (readAt loop offset L) xs
+  goes_on_by : {s : Step} → Clause loop offset s → (xs : List Listed) → unless_end s.item xs ≡ xs
+  unfolding complete_at
+  goes_on_by (long h) xs = refl
+  goes_on_by (ended h) xs = absurd (omega arith)
+  goes_on_by (last r v e) xs = refl
+  goes_on_by (small L s) xs = refl
+  goes_on_by (entire L s h) xs = no_end (offset + 6) (read_at loop offset L) xs
 
   pub turn : Turn loop offset (step_of loop offset).next
-  turn = turn_by (clause loop offset)
+  turn = turn_by_lem (clause loop offset)
 
   -- it does not say that the loop has ended
-  pub goes_on : (xs : List Listed) → unlessEnd (step_of loop offset).item xs ≡ xs
-  goes_on = goes-on-by (clause loop offset)
+  pub goes_on_lem : (xs : List Listed) → unless_end (step_of loop offset).item xs ≡ xs
+  goes_on_lem = goes_on_by (clause loop offset)
 
 pub forward : {loop : List ℕ} {offset next : ℕ} → offset < length loop → Turn loop offset next → offset < next
 forward inside (ends e) = inside
@@ -164,18 +164,18 @@ within (ends e) = omega arith
 within (goes L s) = s.there
 
 module _ (loop : List ℕ) (offset : ℕ) (fits : length loop ≤ 4076) where
-  pub takes-rest : Ends (drop offset loop) → TakesRest loop (step_of loop offset)
-  takes-rest (few a b) =
+  pub takes_rest : Ends (drop offset loop) → TakesRest loop (step_of loop offset)
+  takes_rest (few a b) =
       let n : length (drop offset loop) ≡ length loop - offset = left_is loop offset in
-      record { refusal = _; is = step-few loop offset fits (omega arith) (omega arith) }
-  takes-rest (over a b) =
-      let n : length (drop offset loop) ≡ length loop - offset = left_is loop offset in
-      let L : get_or (drop offset loop) 1 0 ≡ get_or loop (offset + 1) 0 = second loop offset in
-      record { refusal = _; is = step-over loop offset fits (omega arith) (get_or loop (offset + 1) 0) refl (omega arith) (omega arith) }
-  takes-rest (full a b) =
+      record { refusal = _; is = step_few loop offset fits (omega arith) (omega arith) }
+  takes_rest (over a b) =
       let n : length (drop offset loop) ≡ length loop - offset = left_is loop offset in
       let L : get_or (drop offset loop) 1 0 ≡ get_or loop (offset + 1) 0 = second loop offset in
-      record { refusal = _; is = step-full loop offset fits (omega arith) (get_or loop (offset + 1) 0) refl (omega arith) (omega arith) (omega arith) }
+      record { refusal = _; is = step_over loop offset fits (omega arith) (get_or loop (offset + 1) 0) refl (omega arith) (omega arith) }
+  takes_rest (full a b) =
+      let n : length (drop offset loop) ≡ length loop - offset = left_is loop offset in
+      let L : get_or (drop offset loop) 1 0 ≡ get_or loop (offset + 1) 0 = second loop offset in
+      record { refusal = _; is = step_full loop offset fits (omega arith) (get_or loop (offset + 1) 0) refl (omega arith) (omega arith) (omega arith) }
 
 -- ---- the views of an item
 
@@ -184,19 +184,19 @@ abbrev pub Between : ℕ → ℕ → View → Type 0
 Between offset next v = (offset + 6 ≤ v.at) × (v.at + v.len ≤ next)
 
 module _ {loop : List ℕ} {offset : ℕ} where
-  payload-views : (L : ℕ) → Stands loop offset L → 4 ≤ L → All (Between offset (offset + (L + 2))) (viewsOf (item_at (offset + 6) (readAt loop offset L)))
-  unfolding readAt
-  payload-views L s h =
+  payload_views : (L : ℕ) → Stands loop offset L → 4 ≤ L → All (Between offset (offset + (L + 2))) (views_of (item_at (offset + 6) (read_at loop offset L)))
+  unfolding read_at
+  payload_views L s h =
       let payload : List ℕ = take (L - 4) (drop (offset + 6) loop) in
       let size : length payload ≡ L - 4 = omega (arith, length-take (L - 4) (drop (offset + 6) loop), length-drop (offset + 6) loop, s.there) in
-      rw (item-views (offset + 6))
+      rw (item_views (offset + 6))
       (all_map (shifted (offset + 6))
-      (all-into (λ v i. (omega arith, omega (arith, size, i))) (read-inside (get_or loop offset 0) (take 4 (drop (offset + 2) loop)) payload)))
+      (all_into (λ v i. (omega arith, omega (arith, size, i))) (read_inside (get_or loop offset 0) (take 4 (drop (offset + 2) loop)) payload)))
 
-  pub views-between : {s : Step} → Clause loop offset s → All (Between offset s.next) (viewsOf s.item)
-  unfolding completeAt
-  views-between (long h) = none
-  views-between (ended h) = none
-  views-between (last r v e) = rw v none
-  views-between (small L s) = none
-  views-between (entire L s h) = payload-views L s h
+  pub views_between : {s : Step} → Clause loop offset s → All (Between offset s.next) (views_of s.item)
+  unfolding complete_at
+  views_between (long h) = none
+  views_between (ended h) = none
+  views_between (last r v e) = rw v none
+  views_between (small L s) = none
+  views_between (entire L s h) = payload_views L s h

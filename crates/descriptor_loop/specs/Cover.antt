@@ -1,7 +1,7 @@
 -- What it means that the items of a loop cover it, and that it can be cut in no other way.
 use Rattle.std.specs.Prelude.{ℕ, ◌+◌, ◌≤◌, ◌<◌, Bool, ◌&&◌, List, [], ◌∷◌, ◌++◌, map, ◌≡◌, leb, ltb, length, take, drop, get_or}
 use Rattle.table.specs.Bits.{pick}
-use Rattle.descriptor_loop.specs.Items.{withoutIdentifier, Listed}
+use Rattle.descriptor_loop.specs.Items.{without_identifier, Listed}
 use Rattle.descriptor_loop.specs.declared.Item.TheVariants.{Refused}
 use Rattle.descriptor_loop.specs.declared.ItemRefusal.{ItemRefusal}
 use Rattle.descriptor_loop.specs.declared.Step.{Step}
@@ -36,7 +36,7 @@ pub data ByItems : List (List ℕ) → Type 0 where
 -- A cutting of a loop: pieces by these rules whose join is the loop.
 pub record Cutting (loop : List ℕ) (pieces : List (List ℕ)) : Type 0 where
   pub joins : joined pieces ≡ loop
-  pub by-items : ByItems pieces
+  pub by_items : ByItems pieces
 
 -- ---- a loop and its items
 
@@ -54,7 +54,7 @@ pub data Follow : ℕ → ℕ → List Listed → Type 0 where
 -- the step refuses the item and takes the rest: the next offset is the loop's length
 pub record TakesRest (loop : List ℕ) (s : Step) : Type 0 where
   pub refusal : ItemRefusal
-  pub is : s ≡ withoutIdentifier (Refused refusal) (length loop)
+  pub is : s ≡ without_identifier (Refused refusal) (length loop)
 
 -- The items' bytes are one cutting of the loop, in order from its start to its end; and no other cutting meets the rules.
 pub record Covered (loop : List ℕ) (xs : List Listed) : Type 0 where

@@ -3,12 +3,12 @@ use Rattle.std.specs.Prelude.{ℕ, zero, suc, ◌+◌, ◌-◌, List, [], ◌∷
 use Rattle.table.specs.Bits.{pick}
 use Rattle.upid.specs.Upid as upid
 use Rattle.upid.specs.declared.Refusal.TheVariants.{InputTooLong, NotEnoughData}
-use Rattle.descriptor.specs.Descriptor.{movedRefusal, descriptorOf}
-use Rattle.descriptor.specs.Full.{blankBeside, besideRead, identifierRead}
+use Rattle.descriptor.specs.Descriptor.{moved_refusal, descriptor_of}
+use Rattle.descriptor.specs.Full.{blank_beside, beside_read, identifier_read}
 use Rattle.descriptor.specs.declared.DescriptorRead.{DescriptorRead}
 use Rattle.descriptor.specs.declared.DescriptorRead.TheVariants as read
 use Rattle.descriptor.specs.declared.full.Beside.{Beside}
-use Rattle.descriptor_loop.specs.Place.{movedDescriptor}
+use Rattle.descriptor_loop.specs.Place.{moved_descriptor}
 use Rattle.descriptor_loop.specs.declared.Item.{Item}
 use Rattle.descriptor_loop.specs.declared.Item.TheVariants.{End, Refused, Is}
 use Rattle.descriptor_loop.specs.declared.ItemRefusal.{ItemRefusal}
@@ -34,23 +34,23 @@ abbrev pub short : ℕ → ℕ → Item
 short expected actual = Refused (Other (NotEnoughData expected actual))
 
 -- an item without an identifier, and the next offset
-abbrev pub withoutIdentifier : Item → ℕ → Step
-withoutIdentifier item next = record { item = item; identifier = replicate 4 0; next = next }
+abbrev pub without_identifier : Item → ℕ → Step
+without_identifier item next = record { item = item; identifier = replicate 4 0; next = next }
 
 -- what the payload was read as, at `base` of the loop
 abbrev pub item_at : ℕ → DescriptorRead → Item
-item_at base (read.Is d) = Is (movedDescriptor base d)
-item_at base (read.Refused r) = Refused (Other (movedRefusal base r))
+item_at base (read.Is d) = Is (moved_descriptor base d)
+item_at base (read.Refused r) = Refused (Other (moved_refusal base r))
 
 -- "tag, L, identifier of 4; the descriptor's payload is handed to its reader as a part of L - 4 bytes"
-unfoldable pub readAt : List ℕ → ℕ → ℕ → DescriptorRead
-readAt loop offset L = descriptorOf (get_or loop offset 0) (take 4 (drop (offset + 2) loop)) (take (L - 4) (drop (offset + 6) loop))
+unfoldable pub read_at : List ℕ → ℕ → ℕ → DescriptorRead
+read_at loop offset L = descriptor_of (get_or loop offset 0) (take 4 (drop (offset + 2) loop)) (take (L - 4) (drop (offset + 6) loop))
 
-unfoldable pub completeAt : List ℕ → ℕ → ℕ → Step
-completeAt loop offset L =
+unfoldable pub complete_at : List ℕ → ℕ → ℕ → Step
+complete_at loop offset L =
     record {
-      item = item_at (offset + 6) (readAt loop offset L);
-      identifier = identifierRead (readAt loop offset L) (take 4 (drop (offset + 2) loop));
+      item = item_at (offset + 6) (read_at loop offset L);
+      identifier = identifier_read (read_at loop offset L) (take 4 (drop (offset + 2) loop));
       next = offset + (L + 2);
     }
 
@@ -59,33 +59,33 @@ step_of loop offset =
     let R : ℕ = length loop - offset in
     let L : ℕ = get_or loop (offset + 1) 0 in
     -- refusal 2: "loop over 4,076"
-    pick (ltb 4076 (length loop)) (withoutIdentifier (Refused (Other InputTooLong)) (length loop))
+    pick (ltb 4076 (length loop)) (without_identifier (Refused (Other InputTooLong)) (length loop))
     -- "At or past the end it says so, next offset the length. With R bytes left:"
-    (pick (leb (length loop) offset) (withoutIdentifier End (length loop))
+    (pick (leb (length loop) offset) (without_identifier End (length loop))
     -- "R from 1 to 5: refusal 21 (2, 0); the loop ends, next offset its length"
-    (pick (ltb R 6) (withoutIdentifier (short 2 0) (length loop))
+    (pick (ltb R 6) (without_identifier (short 2 0) (length loop))
     -- "R at least 6, length L, L + 2 > R: 21 (L + 2, 0); ends"
-    (pick (ltb R (L + 2)) (withoutIdentifier (short (L + 2) 0) (length loop))
+    (pick (ltb R (L + 2)) (without_identifier (short (L + 2) 0) (length loop))
     -- "L = 255 that fits: 22; ends" (no byte is over 255)
-    (pick (ltb 254 L) (withoutIdentifier (Refused InvalidDescriptorLength) (length loop))
+    (pick (ltb 254 L) (without_identifier (Refused InvalidDescriptorLength) (length loop))
     -- "L from 0 to 3: 21 (6, L + 2); the next item follows after L + 2 bytes"
-    (pick (ltb L 4) (withoutIdentifier (short 6 (L + 2)) (offset + (L + 2)))
+    (pick (ltb L 4) (without_identifier (short 6 (L + 2)) (offset + (L + 2)))
     -- "Else tag, L, identifier of 4", and the payload
-    (completeAt loop offset L))))))
+    (complete_at loop offset L))))))
 
 -- ---- the full reading of an item: "arrays stand beside enums, not in them"
 
 -- beside an item with this payload
-abbrev pub besideItem : Item → List ℕ → Beside
-besideItem End payload = blankBeside
-besideItem (Refused r) payload = blankBeside
-besideItem (Is d) payload = besideRead (read.Is d) payload
+abbrev pub beside_item : Item → List ℕ → Beside
+beside_item End payload = blank_beside
+beside_item (Refused r) payload = blank_beside
+beside_item (Is d) payload = beside_read (read.Is d) payload
 
 -- the payload lies behind the head and the identifier, and ends where the next item starts
 unfoldable pub reading_of : List ℕ → ℕ → Reading
 reading_of loop offset =
     let s : Step = step_of loop offset in
-    record { step = s; beside = besideItem s.item (take (s.next - (offset + 6)) (drop (offset + 6) loop)) }
+    record { step = s; beside = beside_item s.item (take (s.next - (offset + 6)) (drop (offset + 6) loop)) }
 
 -- ---- the list of a loop's items
 
@@ -98,20 +98,20 @@ pub record Listed : Type 0 where
 abbrev pub listed : List ℕ → ℕ → Listed
 listed loop offset = record { offset = offset; used = (step_of loop offset).next - offset; step = step_of loop offset }
 
-abbrev pub unlessEnd : Item → List Listed → List Listed
-unlessEnd End xs = []
-unlessEnd (Refused r) xs = xs
-unlessEnd (Is d) xs = xs
+abbrev pub unless_end : Item → List Listed → List Listed
+unless_end End xs = []
+unless_end (Refused r) xs = xs
+unless_end (Is d) xs = xs
 
 -- The items from an offset on, one step after the other until the step says that the loop has ended. n is any number from the count of the bytes
--- left on: it says that this ends (`from-any` in proofs/Lists.antt).
-unfoldable pub itemsFrom : ℕ → List ℕ → ℕ → List Listed
-itemsFrom zero loop offset = []
-itemsFrom (suc n) loop offset = unlessEnd (step_of loop offset).item (listed loop offset ∷ itemsFrom n loop (step_of loop offset).next)
+-- left on: it says that this ends (`from_any` in proofs/Lists.antt).
+unfoldable pub items_from : ℕ → List ℕ → ℕ → List Listed
+items_from zero loop offset = []
+items_from (suc n) loop offset = unless_end (step_of loop offset).item (listed loop offset ∷ items_from n loop (step_of loop offset).next)
 
 -- a loop over 4,076 bytes is refused, and has no items
 unfoldable pub items_of : List ℕ → List Listed
-items_of loop = pick (ltb 4076 (length loop)) [] (itemsFrom (length loop) loop 0)
+items_of loop = pick (ltb 4076 (length loop)) [] (items_from (length loop) loop 0)
 
 unfoldable pub count_of : List ℕ → Counted
 count_of loop = pick (ltb 4076 (length loop)) (counted.Refused (Other InputTooLong)) (counted.Are (length (items_of loop)))

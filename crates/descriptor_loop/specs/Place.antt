@@ -3,7 +3,7 @@ use Rattle.std.specs.Prelude.{ℕ, List, [], ◌∷◌}
 use Rattle.table.specs.Bits.{pick}
 use Rattle.table.specs.Lent.{no_view, shifted}
 use Rattle.table.specs.declared.View.{View}
-use Rattle.descriptor.specs.Views.{withoutView, descriptorViews, refusalViews, withViews}
+use Rattle.descriptor.specs.Views.{without_view, descriptor_views, refusal_views, with_views}
 use Rattle.descriptor.specs.declared.Descriptor.{Descriptor}
 use Rattle.descriptor.specs.declared.segmentation.SegmentationUpid.{SegmentationUpid}
 use Rattle.descriptor_loop.specs.declared.Item.{Item}
@@ -12,25 +12,25 @@ use Rattle.descriptor_loop.specs.declared.ItemRefusal.TheVariants.{InvalidDescri
 
 -- ---- the view that an item has: that of its descriptor or of its refusal
 
-abbrev pub viewsOf : Item → List View
-viewsOf End = []
-viewsOf (Refused InvalidDescriptorLength) = []
-viewsOf (Refused (Other r)) = refusalViews r
-viewsOf (Is d) = descriptorViews d
+abbrev pub views_of : Item → List View
+views_of End = []
+views_of (Refused InvalidDescriptorLength) = []
+views_of (Refused (Other r)) = refusal_views r
+views_of (Is d) = descriptor_views d
 
 -- an item has at most one; the blank view stands where it has none
-abbrev pub firstView : List View → View
-firstView [] = no_view
-firstView (v ∷ vs) = v
+abbrev pub first_view : List View → View
+first_view [] = no_view
+first_view (v ∷ vs) = v
 
-abbrev pub viewOf : Item → View
-viewOf item = firstView (viewsOf item)
+abbrev pub view_of : Item → View
+view_of item = first_view (views_of item)
 
 -- ---- views that count from a payload's start, counted from the start of the loop, where the payload lies at `base`
 
 -- blank views stay blank
-abbrev pub movedUpid : ℕ → SegmentationUpid → SegmentationUpid
-movedUpid base u = pick (withoutView u.upid_type) u (record { upid_type = u.upid_type; bytes = shifted base u.bytes })
+abbrev pub moved_upid : ℕ → SegmentationUpid → SegmentationUpid
+moved_upid base u = pick (without_view u.upid_type) u (record { upid_type = u.upid_type; bytes = shifted base u.bytes })
 
-abbrev pub movedDescriptor : ℕ → Descriptor → Descriptor
-movedDescriptor base d = withViews (movedUpid base) (shifted base) d
+abbrev pub moved_descriptor : ℕ → Descriptor → Descriptor
+moved_descriptor base d = with_views (moved_upid base) (shifted base) d

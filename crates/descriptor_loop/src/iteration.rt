@@ -1,6 +1,6 @@
 // The step over a loop, and how many items a loop has.
 ghost use Rattle.std.specs.Prelude.{◌≡◌, ◌+◌, ◌≤◌, ◌<◌, length};
-ghost use Rattle.descriptor_loop.specs.Items.{withoutIdentifier, short, completeAt, step_of, count_of};
+ghost use Rattle.descriptor_loop.specs.Items.{without_identifier, short, complete_at, step_of, count_of};
 
 use crate::place::{move_descriptor, move_refusal};
 use crate::{Item, ItemRefusal, MAX_DESCRIPTOR, MAX_LOOP, Step};
@@ -10,7 +10,7 @@ use upid::Refusal;
 
 // An item without an identifier.
 fn plain(item: Item, next: usize) -> Step
-    ensures { result ≡ withoutIdentifier item next }
+    ensures { result ≡ without_identifier item next }
 {
     Step {
         item,
@@ -29,7 +29,7 @@ fn lacks(expected: usize, actual: usize) -> Item
 // An item of `len` bytes after its head, of which four are the identifier.
 fn read_complete(descriptors: &[u8], offset: usize, len: usize) -> Step
     requires { (4 ≤ len) × (offset + (len + 2) ≤ length descriptors.now) × (length descriptors.now ≤ 4076) }
-    ensures { result ≡ completeAt descriptors.now offset len }
+    ensures { result ≡ complete_at descriptors.now offset len }
 {
     let tag = descriptors[offset];
     let id = [

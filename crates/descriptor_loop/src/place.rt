@@ -1,10 +1,10 @@
 // Where the views of an item lie, and the bytes that they name.
 ghost use Rattle.std.specs.Prelude.{◌≡◌, ◌+◌, ◌^◌, ◌<◌};
 ghost use Rattle.table.specs.Lent.{shifted, viewed};
-ghost use Rattle.descriptor.specs.Descriptor.{movedRefusal};
-ghost use Rattle.descriptor.specs.Views.{upidViews, descriptorViews, refusalViews};
-ghost use Rattle.descriptor_loop.specs.Place.{firstView, viewOf, movedUpid, movedDescriptor};
-ghost use Rattle.descriptor_loop.specs.Private.{Movable, movedActive};
+ghost use Rattle.descriptor.specs.Descriptor.{moved_refusal};
+ghost use Rattle.descriptor.specs.Views.{upid_views, descriptor_views, refusal_views};
+ghost use Rattle.descriptor_loop.specs.Place.{first_view, view_of, moved_upid, moved_descriptor};
+ghost use Rattle.descriptor_loop.specs.Private.{Movable, moved_active};
 
 use crate::{Item, ItemRefusal};
 use descriptor::Descriptor;
@@ -29,8 +29,8 @@ fn move_view(v: View, base: usize) -> View
 
 // None and EIDR have the blank view wherever they lie.
 fn move_upid(u: SegmentationUpid, base: usize) -> SegmentationUpid
-    requires { Movable base (upidViews u) }
-    ensures { result ≡ movedUpid base u }
+    requires { Movable base (upid_views u) }
+    ensures { result ≡ moved_upid base u }
 {
     let upid_type = u.upid_type;
     let bytes = u.bytes;
@@ -47,8 +47,8 @@ fn move_upid(u: SegmentationUpid, base: usize) -> SegmentationUpid
 }
 
 fn move_active(active: SegmentationDetail, base: usize) -> SegmentationDetail
-    requires { Movable base (upidViews active.segmentation_upid) }
-    ensures { result ≡ movedActive base active }
+    requires { Movable base (upid_views active.segmentation_upid) }
+    ensures { result ≡ moved_active base active }
 {
     let upid = active.segmentation_upid;
     let delivery_restrictions = active.delivery_restrictions;
@@ -73,8 +73,8 @@ fn move_active(active: SegmentationDetail, base: usize) -> SegmentationDetail
 
 // A descriptor whose payload lies at `base` of the loop.
 pub(crate) fn move_descriptor(d: Descriptor, base: usize) -> Descriptor
-    requires { Movable base (descriptorViews d) }
-    ensures { result ≡ movedDescriptor base d }
+    requires { Movable base (descriptor_views d) }
+    ensures { result ≡ moved_descriptor base d }
 {
     match d {
         Descriptor::Avail(_) => d,
@@ -108,8 +108,8 @@ pub(crate) fn move_descriptor(d: Descriptor, base: usize) -> Descriptor
 
 // The refusal of such a payload.
 pub(crate) fn move_refusal(r: Refusal, base: usize) -> Refusal
-    requires { Movable base (refusalViews r) }
-    ensures { result ≡ movedRefusal base r }
+    requires { Movable base (refusal_views r) }
+    ensures { result ≡ moved_refusal base r }
 {
     match r {
         Refusal::InputTooLong => r,
@@ -131,7 +131,7 @@ pub(crate) fn move_refusal(r: Refusal, base: usize) -> Refusal
 }
 
 fn refusal_view(r: Refusal) -> View
-    ensures { result ≡ firstView (refusalViews r) }
+    ensures { result ≡ first_view (refusal_views r) }
 {
     match r {
         Refusal::InputTooLong => View { at: 0, len: 0 },
@@ -153,7 +153,7 @@ fn refusal_view(r: Refusal) -> View
 }
 
 fn upid_view(u: SegmentationUpid) -> View
-    ensures { result ≡ firstView (upidViews u) }
+    ensures { result ≡ first_view (upid_views u) }
 {
     if u.upid_type == 0 {
         return View { at: 0, len: 0 };
@@ -165,7 +165,7 @@ fn upid_view(u: SegmentationUpid) -> View
 }
 
 fn descriptor_view(d: Descriptor) -> View
-    ensures { result ≡ firstView (descriptorViews d) }
+    ensures { result ≡ first_view (descriptor_views d) }
 {
     match d {
         Descriptor::Avail(_) => View { at: 0, len: 0 },
@@ -190,7 +190,7 @@ fn descriptor_view(d: Descriptor) -> View
 
 // The view that an item has, blank where it has none.
 pub fn view_of(item: Item) -> View
-    ensures { result ≡ viewOf item }
+    ensures { result ≡ view_of item }
 {
     match item {
         Item::End => View { at: 0, len: 0 },
@@ -204,7 +204,7 @@ pub fn view_of(item: Item) -> View
 
 // The bytes of an item's identifier (its DTMF characters, its UPID, its private bytes) or of the text that it is refused for, as a part of the lent loop.
 pub fn bytes_of(descriptors: &[u8], item: Item) -> &[u8]
-    ensures { result.now ≡ viewed descriptors.now (viewOf item) }
+    ensures { result.now ≡ viewed descriptors.now (view_of item) }
 {
     let v = view_of(item);
     view(descriptors, v)

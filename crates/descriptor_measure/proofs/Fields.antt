@@ -8,34 +8,34 @@ use mathlib.Core.Path.{◌≡◌, refl, ap, ap₂, sym, ◌∙◌}
 use native.Mathlib.Omega.{arith}
 use lib.Dec.{eqb}
 use lib.ListN.{length, get_or, drop}
-use Rattle.names.specs.Segmentation.{segmentationNumber}
-use Rattle.table.specs.Table.{Table, done, inside, flagNumber, number, bit, reserved, part, remaining, list, uimsbf, flag, ones}
+use Rattle.names.specs.Segmentation.{segmentation_number}
+use Rattle.table.specs.Table.{Table, done, inside, flag_number, number, bit, reserved, part, remaining, list, uimsbf, flag, ones}
 use Rattle.table.specs.Writing.{Field, bits, Walk, walk}
 use Rattle.table.specs.declared.View.{View}
-use Rattle.table.proofs.Lists.{append-nil}
+use Rattle.table.proofs.Lists.{append_nil}
 use Rattle.table.proofs.Walks.{past, walk_inside}
 use Rattle.descriptor.specs.Segmentation.{
-  deliveryRestrictions,
-  blankComponent,
+  delivery_restrictions,
+  blank_component,
   component,
   count_of,
   Moded,
   mode,
   duration,
-  writtenUpid,
+  written_upid,
   ListedFront,
   parts,
   front,
-  subSegments,
+  sub_segments,
   back,
   head,
   head_of,
-  frontOf,
-  backOf,
-  withUpid,
+  front_of,
+  back_of,
+  with_upid,
   Segmentation,
   segmentation,
-  byProgram,
+  by_program,
   lasting,
   unrestricted,
 }
@@ -48,127 +48,127 @@ use Rattle.descriptor.specs.declared.segmentation.SegmentationDetail.{Segmentati
 use Rattle.descriptor.specs.declared.segmentation.SegmentationMode.{SegmentationMode}
 use Rattle.descriptor.specs.declared.segmentation.SegmentationUpid.{SegmentationUpid}
 use Rattle.descriptor.specs.declared.segmentation.SubSegments.{SubSegments}
-use Rattle.descriptor_measure.specs.Private.{deliveryFields, componentFields, componentsFields, modeFields, durationFields, upidFields, subFields, backFields, flagFields, headFields, activeFields, segmentFields}
+use Rattle.descriptor_measure.specs.Private.{delivery_fields, component_fields, components_fields, mode_fields, duration_fields, upid_fields, sub_fields, back_fields, flag_fields, head_fields, active_fields, segment_fields}
 use Rattle.descriptor_measure.specs.Writing as writing
-use Rattle.descriptor_measure.specs.Writing.{writtenDetail}
+use Rattle.descriptor_measure.specs.Writing.{written_detail}
 
 -- the fields of a table inside another, and then those of the outer one
-in-fields : {X Y : Type 0} (t : Table Y) (q : X → Y) (k : Y → Table X) (x : X) (at : ℕ) (fs gs : List Field) → (walk t (q x) at).fields ≡ fs
+in_fields : {X Y : Type 0} (t : Table Y) (q : X → Y) (k : Y → Table X) (x : X) (at : ℕ) (fs gs : List Field) → (walk t (q x) at).fields ≡ fs
     → (walk (k (walk t (q x) at).value) x (past (walk t (q x) at).fields at)).fields ≡ gs → (walk (inside t q k) x at).fields ≡ fs ++ gs
-in-fields {X} t q k x at fs gs e f = ap (λ (w : Walk X). w.fields) (walk_inside t q k x at) ∙ ap₂ ◌++◌ e f
+in_fields {X} t q k x at fs gs e f = ap (λ (w : Walk X). w.fields) (walk_inside t q k x at) ∙ ap₂ ◌++◌ e f
 
-delivery-fields : (x : DeliveryRestrictionFlags) (at : ℕ) → (walk (deliveryRestrictions (unrestricted x)) x at).fields ≡ deliveryFields x
-unfolding deliveryRestrictions number bit reserved
-delivery-fields DeliveryRestrictionFlags.None at = refl
-delivery-fields (DeliveryRestrictionFlags.DeliveryRestrictions r) at = refl
+delivery_fields_lem : (x : DeliveryRestrictionFlags) (at : ℕ) → (walk (delivery_restrictions (unrestricted x)) x at).fields ≡ delivery_fields x
+unfolding delivery_restrictions number bit reserved
+delivery_fields_lem DeliveryRestrictionFlags.None at = refl
+delivery_fields_lem (DeliveryRestrictionFlags.DeliveryRestrictions r) at = refl
 
-component-fields : (x : SegmentationComponent) (at : ℕ) → (walk component x at).fields ≡ componentFields x
+component_fields_lem : (x : SegmentationComponent) (at : ℕ) → (walk component x at).fields ≡ component_fields x
 unfolding component number reserved
-component-fields x at = refl
+component_fields_lem x at = refl
 
-list-fields : (cs : List SegmentationComponent) (at : ℕ) → (walk (list (length cs) blankComponent component) cs at).fields ≡ componentsFields cs
+list_fields_lem : (cs : List SegmentationComponent) (at : ℕ) → (walk (list (length cs) blank_component component) cs at).fields ≡ components_fields cs
 unfolding list
-list-fields [] at = refl
-list-fields (c ∷ cs) at =
-    in-fields component (λ ys. get_or ys 0 blankComponent) _ (c ∷ cs) at (componentFields c) (componentsFields cs) (component-fields c at)
-    (in-fields (list (length cs) blankComponent component) (drop 1) _ (c ∷ cs) _ (componentsFields cs) [] (list-fields cs _) refl ∙ append-nil (componentsFields cs))
+list_fields_lem [] at = refl
+list_fields_lem (c ∷ cs) at =
+    in_fields component (λ ys. get_or ys 0 blank_component) _ (c ∷ cs) at (component_fields c) (components_fields cs) (component_fields_lem c at)
+    (in_fields (list (length cs) blank_component component) (drop 1) _ (c ∷ cs) _ (components_fields cs) [] (list_fields_lem cs _) refl ∙ append_nil (components_fields cs))
 
-mode-fields : (k : SegmentationMode) (cs : List SegmentationComponent) (at : ℕ) → length cs ≡ count_of k
-    → (walk (mode (byProgram k)) (record { mode = k; components = cs }) at).fields ≡ modeFields k cs
+mode_fields_lem : (k : SegmentationMode) (cs : List SegmentationComponent) (at : ℕ) → length cs ≡ count_of k
+    → (walk (mode (by_program k)) (record { mode = k; components = cs }) at).fields ≡ mode_fields k cs
 unfolding mode number
-mode-fields SegmentationMode.Program cs at e = refl
-mode-fields (SegmentationMode.Component n) cs at e =
+mode_fields_lem SegmentationMode.Program cs at e = refl
+mode_fields_lem (SegmentationMode.Component n) cs at e =
     ap (λ (l : List Field). bits 8 n ∷ l)
-    (rw (← e) (in-fields (list (length cs) blankComponent component) (λ (x : Moded). x.components) _ _ (at + 8) (componentsFields cs) [] (list-fields cs (at + 8)) refl ∙ append-nil (componentsFields cs)))
+    (rw (← e) (in_fields (list (length cs) blank_component component) (λ (x : Moded). x.components) _ _ (at + 8) (components_fields cs) [] (list_fields_lem cs (at + 8)) refl ∙ append_nil (components_fields cs)))
 
-duration-fields : (x : SegmentationDuration) (at : ℕ) → (walk (duration (lasting x)) x at).fields ≡ durationFields x
+duration_fields_lem : (x : SegmentationDuration) (at : ℕ) → (walk (duration (lasting x)) x at).fields ≡ duration_fields x
 unfolding duration number
-duration-fields SegmentationDuration.Absent at = refl
-duration-fields (SegmentationDuration.Ticks t) at = refl
+duration_fields_lem SegmentationDuration.Absent at = refl
+duration_fields_lem (SegmentationDuration.Ticks t) at = refl
 
-upid-fields : (u : SegmentationUpid) (at : ℕ) → (walk writtenUpid u at).fields ≡ upidFields u
-unfolding writtenUpid number part
-upid-fields u at = refl
+upid_fields_lem : (u : SegmentationUpid) (at : ℕ) → (walk written_upid u at).fields ≡ upid_fields u
+unfolding written_upid number part
+upid_fields_lem u at = refl
 
-sub-fields : (x : SubSegments) (at : ℕ) → (walk subSegments x at).fields ≡ subFields x
-unfolding subSegments remaining number
-sub-fields SubSegments.Absent at = refl
-sub-fields (SubSegments.Is x) at = refl
+sub_fields_lem : (x : SubSegments) (at : ℕ) → (walk sub_segments x at).fields ≡ sub_fields x
+unfolding sub_segments remaining number
+sub_fields_lem SubSegments.Absent at = refl
+sub_fields_lem (SubSegments.Is x) at = refl
 
 -- a flag, and then what follows it
-flag-fields : {X : Type 0} (p : X → Bool) (k : Bool → Table X) (x : X) (at : ℕ) (fs : List Field) → (walk (k (p x)) x (at + 1)).fields ≡ fs
-    → (walk (flag p k) x at).fields ≡ bits 1 (flagNumber (p x)) ∷ fs
+flag_fields_lem : {X : Type 0} (p : X → Bool) (k : Bool → Table X) (x : X) (at : ℕ) (fs : List Field) → (walk (k (p x)) x (at + 1)).fields ≡ fs
+    → (walk (flag p k) x at).fields ≡ bits 1 (flag_number (p x)) ∷ fs
 unfolding bit
-flag-fields p k x at fs e = ap (λ (b : Bool). bits 1 (flagNumber (p x)) ∷ (walk (k b) x (at + 1)).fields) (again (p x)) ∙ ap (λ (l : List Field). bits 1 (flagNumber (p x)) ∷ l) e
+flag_fields_lem p k x at fs e = ap (λ (b : Bool). bits 1 (flag_number (p x)) ∷ (walk (k b) x (at + 1)).fields) (again (p x)) ∙ ap (λ (l : List Field). bits 1 (flag_number (p x)) ∷ l) e
   where
-    again : (b : Bool) → eqb (flagNumber b) 1 ≡ b
+    again : (b : Bool) → eqb (flag_number b) 1 ≡ b
     again true = refl
     again false = refl
 
 module _ (i : SegmentationDetail) (upid : SegmentationUpid) (cs : List SegmentationComponent) (fits : length cs ≡ count_of i.segmentation_mode) where
   abbrev listed : ListedFront
-  listed = record { front = frontOf (Active (withUpid i upid)); components = cs }
+  listed = record { front = front_of (Active (with_upid i upid)); components = cs }
 
-  parts-fields : (at : ℕ) → (walk (parts (byProgram i.segmentation_mode) (lasting i.segmentation_duration) (unrestricted i.delivery_restrictions)) listed at).fields
-      ≡ deliveryFields i.delivery_restrictions
-      ++ (modeFields i.segmentation_mode cs
-      ++ (durationFields i.segmentation_duration
-      ++ (upidFields upid ++ [])))
+  parts_fields : (at : ℕ) → (walk (parts (by_program i.segmentation_mode) (lasting i.segmentation_duration) (unrestricted i.delivery_restrictions)) listed at).fields
+      ≡ delivery_fields i.delivery_restrictions
+      ++ (mode_fields i.segmentation_mode cs
+      ++ (duration_fields i.segmentation_duration
+      ++ (upid_fields upid ++ [])))
   unfolding parts
-  parts-fields at =
-      in-fields (deliveryRestrictions (unrestricted i.delivery_restrictions)) _ _ listed at _ _ (delivery-fields i.delivery_restrictions at)
-      (in-fields (mode (byProgram i.segmentation_mode)) _ _ listed _ _ _ (mode-fields i.segmentation_mode cs _ fits)
-      (in-fields (duration (lasting i.segmentation_duration)) _ _ listed _ _ _ (duration-fields i.segmentation_duration _)
-      (in-fields writtenUpid _ _ listed _ _ _ (upid-fields upid _) refl)))
+  parts_fields at =
+      in_fields (delivery_restrictions (unrestricted i.delivery_restrictions)) _ _ listed at _ _ (delivery_fields_lem i.delivery_restrictions at)
+      (in_fields (mode (by_program i.segmentation_mode)) _ _ listed _ _ _ (mode_fields_lem i.segmentation_mode cs _ fits)
+      (in_fields (duration (lasting i.segmentation_duration)) _ _ listed _ _ _ (duration_fields_lem i.segmentation_duration _)
+      (in_fields written_upid _ _ listed _ _ _ (upid_fields_lem upid _) refl)))
 
-  front-fields : (at : ℕ) → (walk front listed at).fields
-      ≡ flagFields (byProgram i.segmentation_mode) (lasting i.segmentation_duration) (unrestricted i.delivery_restrictions)
-      ++ (deliveryFields i.delivery_restrictions
-      ++ (modeFields i.segmentation_mode cs
-      ++ (durationFields i.segmentation_duration
-      ++ (upidFields upid ++ []))))
+  front_fields_lem : (at : ℕ) → (walk front listed at).fields
+      ≡ flag_fields (by_program i.segmentation_mode) (lasting i.segmentation_duration) (unrestricted i.delivery_restrictions)
+      ++ (delivery_fields i.delivery_restrictions
+      ++ (mode_fields i.segmentation_mode cs
+      ++ (duration_fields i.segmentation_duration
+      ++ (upid_fields upid ++ []))))
   unfolding front
-  front-fields at =
-      flag-fields _ _ listed at _
-      (flag-fields _ _ listed (at + 1) _
-      (flag-fields _ _ listed (at + 1 + 1) _
-      (parts-fields (at + 1 + 1 + 1))))
+  front_fields_lem at =
+      flag_fields_lem _ _ listed at _
+      (flag_fields_lem _ _ listed (at + 1) _
+      (flag_fields_lem _ _ listed (at + 1 + 1) _
+      (parts_fields (at + 1 + 1 + 1))))
 
-  back_fields : (at : ℕ) → (walk back (backOf (Active (withUpid i upid))) at).fields ≡ backFields i
+  back_fields_lem : (at : ℕ) → (walk back (back_of (Active (with_upid i upid))) at).fields ≡ back_fields i
   unfolding back number
-  back_fields at =
-      ap (λ (l : List Field). bits 8 (segmentationNumber i.segmentation_type_id) ∷ (bits 8 i.segment_num ∷ (bits 8 i.segments_expected ∷ l)))
-      (in-fields subSegments _ _ (backOf (Active (withUpid i upid))) (at + 8 + 8 + 8) _ _ (sub-fields i.sub_segments _) refl ∙ append-nil (subFields i.sub_segments))
+  back_fields_lem at =
+      ap (λ (l : List Field). bits 8 (segmentation_number i.segmentation_type_id) ∷ (bits 8 i.segment_num ∷ (bits 8 i.segments_expected ∷ l)))
+      (in_fields sub_segments _ _ (back_of (Active (with_upid i upid))) (at + 8 + 8 + 8) _ _ (sub_fields_lem i.sub_segments _) refl ∙ append_nil (sub_fields i.sub_segments))
 
-  all-fields : (event : ℕ) → (let x : Segmentation = record { descriptor = record { segmentation_event_id = event; descriptor_detail = Active (withUpid i upid) }; components = cs } in
+  all_fields : (event : ℕ) → (let x : Segmentation = record { descriptor = record { segmentation_event_id = event; descriptor_detail = Active (with_upid i upid) }; components = cs } in
       (walk segmentation x 0).fields
-      ≡ headFields event false
-      ++ (flagFields (byProgram i.segmentation_mode) (lasting i.segmentation_duration) (unrestricted i.delivery_restrictions)
-      ++ (deliveryFields i.delivery_restrictions
-      ++ (modeFields i.segmentation_mode cs
-      ++ (durationFields i.segmentation_duration ++ (upidFields upid ++ backFields i))))))
+      ≡ head_fields event false
+      ++ (flag_fields (by_program i.segmentation_mode) (lasting i.segmentation_duration) (unrestricted i.delivery_restrictions)
+      ++ (delivery_fields i.delivery_restrictions
+      ++ (mode_fields i.segmentation_mode cs
+      ++ (duration_fields i.segmentation_duration ++ (upid_fields upid ++ back_fields i))))))
   unfolding segmentation head number bit reserved
-  all-fields event =
-      let x : Segmentation = record { descriptor = record { segmentation_event_id = event; descriptor_detail = Active (withUpid i upid) }; components = cs } in
-      ap (λ (l : List Field). headFields event false ++ l)
-      (in-fields front _ _ x 40 _ _ (front-fields 40) (in-fields back _ _ x _ _ _ (back_fields _) refl ∙ append-nil (backFields i))
-      ∙ simp (append_assoc, append-nil))
+  all_fields event =
+      let x : Segmentation = record { descriptor = record { segmentation_event_id = event; descriptor_detail = Active (with_upid i upid) }; components = cs } in
+      ap (λ (l : List Field). head_fields event false ++ l)
+      (in_fields front _ _ x 40 _ _ (front_fields_lem 40) (in_fields back _ _ x _ _ _ (back_fields_lem _) refl ∙ append_nil (back_fields i))
+      ∙ simp (append_assoc, append_nil))
 
 -- the fields before the UPID's
-abbrev pub frontFields : ℕ → SegmentationDetail → List SegmentationComponent → List Field
-frontFields event i cs =
-    headFields event false
-    ++ (flagFields (byProgram i.segmentation_mode) (lasting i.segmentation_duration) (unrestricted i.delivery_restrictions)
-    ++ (deliveryFields i.delivery_restrictions ++ (modeFields i.segmentation_mode cs ++ durationFields i.segmentation_duration)))
+abbrev pub front_fields : ℕ → SegmentationDetail → List SegmentationComponent → List Field
+front_fields event i cs =
+    head_fields event false
+    ++ (flag_fields (by_program i.segmentation_mode) (lasting i.segmentation_duration) (unrestricted i.delivery_restrictions)
+    ++ (delivery_fields i.delivery_restrictions ++ (mode_fields i.segmentation_mode cs ++ duration_fields i.segmentation_duration)))
 
-pub active-fields : (event : ℕ) (i : SegmentationDetail) (upid : SegmentationUpid) (cs : List SegmentationComponent) → length cs ≡ count_of i.segmentation_mode
-    → (let x : Segmentation = record { descriptor = record { segmentation_event_id = event; descriptor_detail = Active (withUpid i upid) }; components = cs } in
-    (walk segmentation x 0).fields ≡ frontFields event i cs ++ (upidFields upid ++ backFields i))
-active-fields event i upid cs e = all-fields i upid cs e event ∙ simp append_assoc
+pub active_fields_lem : (event : ℕ) (i : SegmentationDetail) (upid : SegmentationUpid) (cs : List SegmentationComponent) → length cs ≡ count_of i.segmentation_mode
+    → (let x : Segmentation = record { descriptor = record { segmentation_event_id = event; descriptor_detail = Active (with_upid i upid) }; components = cs } in
+    (walk segmentation x 0).fields ≡ front_fields event i cs ++ (upid_fields upid ++ back_fields i))
+active_fields_lem event i upid cs e = all_fields i upid cs e event ∙ simp append_assoc
 
-pub fields-are : (event : ℕ) (d : DescriptorDetail) (cs : List SegmentationComponent) → length cs ≡ count_of (frontOf d).segmentation_mode
-    → (let x : Segmentation = record { descriptor = record { segmentation_event_id = event; descriptor_detail = writtenDetail d }; components = cs } in
-    (walk segmentation x 0).fields ≡ segmentFields event d cs)
-unfolding segmentation segmentFields head number bit reserved
-fields-are event Cancel cs e = refl
-fields-are event (Active i) cs e = all-fields i (writing.writtenUpid i.segmentation_upid) cs e event
+pub fields_are : (event : ℕ) (d : DescriptorDetail) (cs : List SegmentationComponent) → length cs ≡ count_of (front_of d).segmentation_mode
+    → (let x : Segmentation = record { descriptor = record { segmentation_event_id = event; descriptor_detail = written_detail d }; components = cs } in
+    (walk segmentation x 0).fields ≡ segment_fields event d cs)
+unfolding segmentation segment_fields head number bit reserved
+fields_are event Cancel cs e = refl
+fields_are event (Active i) cs e = all_fields i (writing.written_upid i.segmentation_upid) cs e event

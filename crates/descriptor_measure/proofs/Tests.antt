@@ -10,14 +10,14 @@ use lib.Dec.{leb, ltb, eqb}
 use lib.ListN.{length, get_or, take, drop, replicate, length-take, length-replicate}
 use lib.Seq.{drop-cons, drop-length, length-take-le}
 use borrow.Author.Tests.{ltb-true, ltb-false, eqb-true, not-true, not-false, lt-ltb, le-ltb, eq-eqb, ne_eqb}
-use Rattle.names.specs.Segmentation.{segmentationNumber, writableSegmentation}
+use Rattle.names.specs.Segmentation.{segmentation_number, writable_segmentation}
 use Rattle.table.specs.Bits.{pick}
 use Rattle.table.specs.Lent.{viewed}
 use Rattle.table.specs.Writing.{Field, within}
-use Rattle.upid.specs.Upid.{checkOf}
+use Rattle.upid.specs.Upid.{check_of}
 use Rattle.upid.specs.declared.UpidRead.{UpidRead}
-use Rattle.descriptor.specs.Descriptor.{isCuei}
-use Rattle.descriptor.specs.Segmentation.{agrees, blankComponent, byProgram, count_of, lasting, unrestricted, writableFront, writableDetail}
+use Rattle.descriptor.specs.Descriptor.{is_cuei}
+use Rattle.descriptor.specs.Segmentation.{agrees, blank_component, by_program, count_of, lasting, unrestricted, writable_front, writable_detail}
 use Rattle.descriptor.specs.Full.{filled}
 use Rattle.descriptor.specs.declared.segmentation.SegmentationComponent.{SegmentationComponent}
 use Rattle.descriptor.specs.declared.segmentation.DescriptorDetail.TheVariants.{Active}
@@ -27,66 +27,66 @@ use Rattle.descriptor.specs.declared.segmentation.SegmentationMode.{Segmentation
 use Rattle.descriptor.specs.declared.segmentation.SegmentationUpid.{SegmentationUpid}
 use Rattle.descriptor.specs.declared.segmentation.SubSegment.{SubSegment}
 use Rattle.descriptor.specs.declared.segmentation.SubSegments.{SubSegments}
-use Rattle.descriptor_measure.specs.Private.{componentsFields, modeFields, durationFields, subFields, backFields, numbersFit}
-use Rattle.descriptor_measure.specs.Writing.{accepts, allZero, alone, writableReserved, writableUpid, writtenType}
+use Rattle.descriptor_measure.specs.Private.{components_fields, mode_fields, duration_fields, sub_fields, back_fields, numbers_fit}
+use Rattle.descriptor_measure.specs.Writing.{accepts, all_zero, alone, writable_reserved, writable_upid, written_type}
 
 -- ---- all zero: what is left says what the whole says
-module _ (s : List ℕ) (i : ℕ) (inv : allZero (drop i s) ≡ allZero s) where
-  at_next : i < length s → allZero (drop i s) ≡ eqb (get_or s i 0) 0 && allZero (drop (i + 1) s)
-  unfolding allZero
+module _ (s : List ℕ) (i : ℕ) (inv : all_zero (drop i s) ≡ all_zero s) where
+  at_next : i < length s → all_zero (drop i s) ≡ eqb (get_or s i 0) 0 && all_zero (drop (i + 1) s)
+  unfolding all_zero
   at_next h = rw (add-one i, drop-cons s i 0 h)
 
-  pub zero_turn : i < length s → get_or s i 0 ≡ 0 → allZero (drop (i + 1) s) ≡ allZero s
+  pub zero_turn : i < length s → get_or s i 0 ≡ 0 → all_zero (drop (i + 1) s) ≡ all_zero s
   zero_turn h e = sym (at_next h ∙ rw (eq-eqb (get_or s i 0) 0 e)) ∙ inv
 
-  pub zero-stop : i < length s → (get_or s i 0 ≡ 0 → ⊥) → false ≡ allZero s
-  zero-stop h e = sym (at_next h ∙ rw (ne_eqb (get_or s i 0) 0 e)) ∙ inv
+  pub zero_stop : i < length s → (get_or s i 0 ≡ 0 → ⊥) → false ≡ all_zero s
+  zero_stop h e = sym (at_next h ∙ rw (ne_eqb (get_or s i 0) 0 e)) ∙ inv
 
-  pub zero-end : length s ≤ i → i ≤ length s → true ≡ allZero s
-  unfolding allZero
-  zero-end h l =
+  pub zero_end : length s ≤ i → i ≤ length s → true ≡ all_zero s
+  unfolding all_zero
+  zero_end h l =
       let z : i ≡ length s = omega arith in
       let d : drop i s ≡ [] = rw z (drop-length s) in
-      sym (ap allZero d) ∙ inv
+      sym (ap all_zero d) ∙ inv
 
-pub zero-alone : (a b : List ℕ) (r s : Bool) → r ≡ allZero a → r ≡ true → s ≡ allZero b → s ≡ alone a b
+pub zero_alone : (a b : List ℕ) (r s : Bool) → r ≡ all_zero a → r ≡ true → s ≡ all_zero b → s ≡ alone a b
 unfolding alone
-zero-alone a b r s er t es = rw (← er, t) es
+zero_alone a b r s er t es = rw (← er, t) es
 
-pub not-alone : (a b : List ℕ) (r : Bool) → r ≡ allZero a → r ≡ false → false ≡ alone a b
+pub not_alone : (a b : List ℕ) (r : Bool) → r ≡ all_zero a → r ≡ false → false ≡ alone a b
 unfolding alone
-not-alone a b r er t = rw (← er, t)
+not_alone a b r er t = rw (← er, t)
 
 -- ---- a reserved descriptor
-module _ (tag : ℕ) (id eidr : List ℕ) (z : Bool) (ez : z ≡ allZero eidr) where
-  pub reserved-beside : not z ≡ true → false ≡ writableReserved tag id eidr
-  unfolding writableReserved
-  reserved-beside t = rw (← ez, not-true z t) (go (not (isCuei id && ltb tag 4)))
+module _ (tag : ℕ) (id eidr : List ℕ) (z : Bool) (ez : z ≡ all_zero eidr) where
+  pub reserved_beside : not z ≡ true → false ≡ writable_reserved tag id eidr
+  unfolding writable_reserved
+  reserved_beside t = rw (← ez, not-true z t) (go (not (is_cuei id && ltb tag 4)))
     where
       go : (b : Bool) → false ≡ b && false
       go true = refl
       go false = refl
 
-  module _ (t : not z ≡ false) (c : Bool) (ec : c ≡ isCuei id) where
-    pub reserved-tag : c ≡ true → ltb 3 tag ≡ writableReserved tag id eidr
-    unfolding writableReserved
-    reserved-tag u = rw (← ez, not-false z t, ← ec, u) (go (ltb tag 4) refl)
+  module _ (t : not z ≡ false) (c : Bool) (ec : c ≡ is_cuei id) where
+    pub reserved_tag : c ≡ true → ltb 3 tag ≡ writable_reserved tag id eidr
+    unfolding writable_reserved
+    reserved_tag u = rw (← ez, not-false z t, ← ec, u) (go (ltb tag 4) refl)
       where
         go : (b : Bool) → ltb tag 4 ≡ b → ltb 3 tag ≡ not b && true
         go true e = le-ltb 3 tag (omega (arith, ltb-true tag 4 e))
         go false e = lt-ltb 3 tag (omega (arith, ltb-false tag 4 e))
 
-    pub reserved-other : c ≡ false → true ≡ writableReserved tag id eidr
-    unfolding writableReserved
-    reserved-other u = rw (← ez, not-false z t, ← ec, u)
+    pub reserved_other : c ≡ false → true ≡ writable_reserved tag id eidr
+    unfolding writable_reserved
+    reserved_other u = rw (← ez, not-false z t, ← ec, u)
 
 -- ---- sub-segments: a byte fits
-pub sub-over : (s : SubSegments) (x : SubSegment) → s ≡ SubSegments.Is x → (w : ℕ) → w ≡ x.sub_segment_num → 255 < w → w < 256 → false ≡ within (subFields s)
-sub-over s x e w ew h l = absurd (omega arith)
+pub sub_over : (s : SubSegments) (x : SubSegment) → s ≡ SubSegments.Is x → (w : ℕ) → w ≡ x.sub_segment_num → 255 < w → w < 256 → false ≡ within (sub_fields s)
+sub_over s x e w ew h l = absurd (omega arith)
 
-pub sub-byte : (s : SubSegments) (x : SubSegment) → s ≡ SubSegments.Is x → (w v : ℕ) → w ≡ x.sub_segment_num → w ≤ 255 → v ≡ x.sub_segments_expected
-    → ltb v 256 ≡ within (subFields s)
-sub-byte s x e w v ew h ev = rw (e, ev, lt-ltb x.sub_segment_num 256 (omega arith)) (go (ltb x.sub_segments_expected 256))
+pub sub_byte : (s : SubSegments) (x : SubSegment) → s ≡ SubSegments.Is x → (w v : ℕ) → w ≡ x.sub_segment_num → w ≤ 255 → v ≡ x.sub_segments_expected
+    → ltb v 256 ≡ within (sub_fields s)
+sub_byte s x e w v ew h ev = rw (e, ev, lt-ltb x.sub_segment_num 256 (omega arith)) (go (ltb x.sub_segments_expected 256))
   where
     go : (b : Bool) → b ≡ b && true
     go true = refl
@@ -96,91 +96,91 @@ and_tt : (b : Bool) → b ≡ b && true
 and_tt true = refl
 and_tt false = refl
 
-pub duration-byte : (d : SegmentationDuration) (t : ℕ) → d ≡ SegmentationDuration.Ticks t → ltb t (2 ^ 40) ≡ within (durationFields d)
-duration-byte d t e = rw e (and_tt (ltb t (2 ^ 40)))
+pub duration_byte : (d : SegmentationDuration) (t : ℕ) → d ≡ SegmentationDuration.Ticks t → ltb t (2 ^ 40) ≡ within (duration_fields d)
+duration_byte d t e = rw e (and_tt (ltb t (2 ^ 40)))
 
-pub mode-byte : (k : SegmentationMode) (n : ℕ) (cs : List SegmentationComponent) (r : Bool) → k ≡ SegmentationMode.Component n → n < 256 → r ≡ within (componentsFields (take n cs))
-    → (r ≡ within (modeFields k (take (count_of k) cs))) × (count_of k < 256)
-mode-byte k n cs r e h er = rw e (rw (lt-ltb n 256 h) er, h)
+pub mode_byte : (k : SegmentationMode) (n : ℕ) (cs : List SegmentationComponent) (r : Bool) → k ≡ SegmentationMode.Component n → n < 256 → r ≡ within (components_fields (take n cs))
+    → (r ≡ within (mode_fields k (take (count_of k) cs))) × (count_of k < 256)
+mode_byte k n cs r e h er = rw e (rw (lt-ltb n 256 h) er, h)
 
-pub mode-none : (k : SegmentationMode) (cs : List SegmentationComponent) → k ≡ SegmentationMode.Program → (true ≡ within (modeFields k (take (count_of k) cs))) × (count_of k < 256)
-mode-none k cs e = rw e (refl, (let z : 0 < 256 = omega arith in z))
+pub mode_none : (k : SegmentationMode) (cs : List SegmentationComponent) → k ≡ SegmentationMode.Program → (true ≡ within (mode_fields k (take (count_of k) cs))) × (count_of k < 256)
+mode_none k cs e = rw e (refl, (let z : 0 < 256 = omega arith in z))
 
 -- a count alone
-pub count-byte : (k : SegmentationMode) (n w : ℕ) → k ≡ SegmentationMode.Component n → w ≡ n → n < 256 → (ltb w 256 ≡ within (modeFields k [])) × (count_of k < 256)
-count-byte k n w e ew h = rw (e, ew) (and_tt (ltb n 256), h)
+pub count_byte : (k : SegmentationMode) (n w : ℕ) → k ≡ SegmentationMode.Component n → w ≡ n → n < 256 → (ltb w 256 ≡ within (mode_fields k [])) × (count_of k < 256)
+count_byte k n w e ew h = rw (e, ew) (and_tt (ltb n 256), h)
 
-pub count_none : (k : SegmentationMode) → k ≡ SegmentationMode.Program → (true ≡ within (modeFields k [])) × (count_of k < 256)
+pub count_none : (k : SegmentationMode) → k ≡ SegmentationMode.Program → (true ≡ within (mode_fields k [])) × (count_of k < 256)
 count_none k e = rw e (refl, (let z : 0 < 256 = omega arith in z))
 
-none-fits : (k : SegmentationMode) → count_of k < 256 → within (modeFields k []) ≡ true
-none-fits SegmentationMode.Program h = refl
-none-fits (SegmentationMode.Component n) h = rw (lt-ltb n 256 h)
+none_fits : (k : SegmentationMode) → count_of k < 256 → within (mode_fields k []) ≡ true
+none_fits SegmentationMode.Program h = refl
+none_fits (SegmentationMode.Component n) h = rw (lt-ltb n 256 h)
 
 -- blank components fit
-all-blank : (n m : ℕ) → within (componentsFields (take n (replicate m blankComponent))) ≡ true
-all-blank zero m = refl
-all-blank (suc n) zero = refl
-all-blank (suc n) (suc m) = all-blank n m
+all_blank : (n m : ℕ) → within (components_fields (take n (replicate m blank_component))) ≡ true
+all_blank zero m = refl
+all_blank (suc n) zero = refl
+all_blank (suc n) (suc m) = all_blank n m
 
-pub blanks-fit : (k : SegmentationMode) → count_of k < 256 → within (modeFields k (take (count_of k) (filled []))) ≡ true
+pub blanks_fit : (k : SegmentationMode) → count_of k < 256 → within (mode_fields k (take (count_of k) (filled []))) ≡ true
 unfolding filled
-blanks-fit SegmentationMode.Program h = refl
-blanks-fit (SegmentationMode.Component n) h = rw (lt-ltb n 256 h) (all-blank n 255)
+blanks_fit SegmentationMode.Program h = refl
+blanks_fit (SegmentationMode.Component n) h = rw (lt-ltb n 256 h) (all_blank n 255)
 
-pub blanks-length : length (filled []) ≡ 255
+pub blanks_length : length (filled []) ≡ 255
 unfolding filled
-blanks-length = length-replicate 255 blankComponent
+blanks_length = length-replicate 255 blank_component
 
 -- ---- components: likewise
-module _ (cs : List SegmentationComponent) (i : ℕ) (inv : within (componentsFields (drop i cs)) ≡ within (componentsFields cs)) (h : i < length cs)
-    (m : SegmentationComponent) (is : get_or cs i blankComponent ≡ m) (tag : m.component_tag < 256) where
-  part-next : within (componentsFields (drop i cs)) ≡ ltb m.pts_offset (2 ^ 33) && within (componentsFields (drop (i + 1) cs))
-  part-next = rw (add-one i, drop-cons cs i blankComponent h, is, lt-ltb m.component_tag 256 tag)
+module _ (cs : List SegmentationComponent) (i : ℕ) (inv : within (components_fields (drop i cs)) ≡ within (components_fields cs)) (h : i < length cs)
+    (m : SegmentationComponent) (is : get_or cs i blank_component ≡ m) (tag : m.component_tag < 256) where
+  part_next : within (components_fields (drop i cs)) ≡ ltb m.pts_offset (2 ^ 33) && within (components_fields (drop (i + 1) cs))
+  part_next = rw (add-one i, drop-cons cs i blank_component h, is, lt-ltb m.component_tag 256 tag)
 
-  pub parts-turn : m.pts_offset ≤ 0x1ffffffff → within (componentsFields (drop (i + 1) cs)) ≡ within (componentsFields cs)
-  parts-turn l = sym (part-next ∙ rw (lt-ltb m.pts_offset (2 ^ 33) (omega arith))) ∙ inv
+  pub parts_turn : m.pts_offset ≤ 0x1ffffffff → within (components_fields (drop (i + 1) cs)) ≡ within (components_fields cs)
+  parts_turn l = sym (part_next ∙ rw (lt-ltb m.pts_offset (2 ^ 33) (omega arith))) ∙ inv
 
-  pub parts-stop : 0x1ffffffff < m.pts_offset → false ≡ within (componentsFields cs)
-  parts-stop l = sym (part-next ∙ rw (le-ltb m.pts_offset (2 ^ 33) (omega arith))) ∙ inv
+  pub parts_stop : 0x1ffffffff < m.pts_offset → false ≡ within (components_fields cs)
+  parts_stop l = sym (part_next ∙ rw (le-ltb m.pts_offset (2 ^ 33) (omega arith))) ∙ inv
 
-drop-none : {A : Type 0} (i : ℕ) (l : List A) → length l ≤ i → drop i l ≡ []
-drop-none zero [] h = refl
-drop-none zero (x ∷ l) h = absurd (omega arith)
-drop-none (suc i) [] h = refl
-drop-none (suc i) (x ∷ l) h = drop-none i l (omega arith)
+drop_none : {A : Type 0} (i : ℕ) (l : List A) → length l ≤ i → drop i l ≡ []
+drop_none zero [] h = refl
+drop_none zero (x ∷ l) h = absurd (omega arith)
+drop_none (suc i) [] h = refl
+drop_none (suc i) (x ∷ l) h = drop_none i l (omega arith)
 
-pub parts-end : (cs : List SegmentationComponent) (n i : ℕ) → within (componentsFields (drop i (take n cs))) ≡ within (componentsFields (take n cs)) → n ≤ i
-    → true ≡ within (componentsFields (take n cs))
-parts-end cs n i inv h =
-    let d : drop i (take n cs) ≡ [] = drop-none i (take n cs) (omega (arith, length-take n cs)) in
-    sym (ap (λ (l : List SegmentationComponent). within (componentsFields l)) d) ∙ inv
+pub parts_end : (cs : List SegmentationComponent) (n i : ℕ) → within (components_fields (drop i (take n cs))) ≡ within (components_fields (take n cs)) → n ≤ i
+    → true ≡ within (components_fields (take n cs))
+parts_end cs n i inv h =
+    let d : drop i (take n cs) ≡ [] = drop_none i (take n cs) (omega (arith, length-take n cs)) in
+    sym (ap (λ (l : List SegmentationComponent). within (components_fields l)) d) ∙ inv
 
 -- ---- flags and type id
-module _ (i : SegmentationDetail) (p a : Bool) (ep : p ≡ byProgram i.segmentation_mode) (ea : a ≡ agrees i.program_segmentation_flag p) where
-  pub writable-no-program : not a ≡ true → false ≡ writableDetail (Active i)
-  unfolding writableDetail writableFront
-  writable-no-program t = rw (← ep, ← ea, not-true a t)
+module _ (i : SegmentationDetail) (p a : Bool) (ep : p ≡ by_program i.segmentation_mode) (ea : a ≡ agrees i.program_segmentation_flag p) where
+  pub writable_no_program : not a ≡ true → false ≡ writable_detail (Active i)
+  unfolding writable_detail writable_front
+  writable_no_program t = rw (← ep, ← ea, not-true a t)
 
   module _ (t : not a ≡ false) (l b : Bool) (el : l ≡ lasting i.segmentation_duration) (eb : b ≡ agrees i.segmentation_duration_flag l) where
-    pub writable-no-lasting : not b ≡ true → false ≡ writableDetail (Active i)
-    unfolding writableDetail writableFront
-    writable-no-lasting u = rw (← ep, ← ea, not-false a t, ← el, ← eb, not-true b u)
+    pub writable_no_lasting : not b ≡ true → false ≡ writable_detail (Active i)
+    unfolding writable_detail writable_front
+    writable_no_lasting u = rw (← ep, ← ea, not-false a t, ← el, ← eb, not-true b u)
 
     module _ (u : not b ≡ false) (f d : Bool) (ef : f ≡ unrestricted i.delivery_restrictions) (ed : d ≡ agrees i.delivery_not_restricted_flag f) where
-      pub writable-no-free : not d ≡ true → false ≡ writableDetail (Active i)
-      unfolding writableDetail writableFront
-      writable-no-free v = rw (← ep, ← ea, not-false a t, ← el, ← eb, not-false b u, ← ef, ← ed, not-true d v)
+      pub writable_no_free : not d ≡ true → false ≡ writable_detail (Active i)
+      unfolding writable_detail writable_front
+      writable_no_free v = rw (← ep, ← ea, not-false a t, ← el, ← eb, not-false b u, ← ef, ← ed, not-true d v)
 
-      pub writable-type : not d ≡ false → (r : Bool) → r ≡ writableSegmentation i.segmentation_type_id → r ≡ writableDetail (Active i)
-      unfolding writableDetail writableFront
-      writable-type v r er = rw (← ep, ← ea, not-false a t, ← el, ← eb, not-false b u, ← ef, ← ed, not-false d v) er
+      pub writable_type : not d ≡ false → (r : Bool) → r ≡ writable_segmentation i.segmentation_type_id → r ≡ writable_detail (Active i)
+      unfolding writable_detail writable_front
+      writable_type v r er = rw (← ep, ← ea, not-false a t, ← el, ← eb, not-false b u, ← ef, ← ed, not-false d v) er
 
 -- ---- a UPID
 module _ (u : SegmentationUpid) (eidr lent : List ℕ) where
-  pub upid-eidr : u.upid_type ≡ 10 → eqb u.bytes.len 0 ≡ writableUpid u eidr lent
-  unfolding writableUpid
-  upid-eidr e = rw (eq-eqb u.upid_type 10 e)
+  pub upid_eidr : u.upid_type ≡ 10 → eqb u.bytes.len 0 ≡ writable_upid u eidr lent
+  unfolding writable_upid
+  upid_eidr e = rw (eq-eqb u.upid_type 10 e)
 
   no_bytes : u.bytes.len ≡ 0 → viewed lent u.bytes ≡ []
   unfolding viewed
@@ -190,69 +190,69 @@ module _ (u : SegmentationUpid) (eidr lent : List ℕ) where
       go true = rw e
       go false = refl
 
-  module _ (ne : u.upid_type ≡ 10 → ⊥) (z : Bool) (ez : z ≡ allZero eidr) where
-    pub upid-beside : not z ≡ true → false ≡ writableUpid u eidr lent
-    unfolding writableUpid
-    upid-beside t = rw (ne_eqb u.upid_type 10 ne, ← ez, not-true z t)
+  module _ (ne : u.upid_type ≡ 10 → ⊥) (z : Bool) (ez : z ≡ all_zero eidr) where
+    pub upid_beside : not z ≡ true → false ≡ writable_upid u eidr lent
+    unfolding writable_upid
+    upid_beside t = rw (ne_eqb u.upid_type 10 ne, ← ez, not-true z t)
 
     module _ (t : not z ≡ false) where
-      pub upid-none : u.upid_type ≡ 0 → eqb u.bytes.len 0 ≡ writableUpid u eidr lent
-      unfolding writableUpid writtenType checkOf
-      upid-none e =
+      pub upid_none : u.upid_type ≡ 0 → eqb u.bytes.len 0 ≡ writable_upid u eidr lent
+      unfolding writable_upid written_type check_of
+      upid_none e =
           let k : eqb u.upid_type 5 ≡ false = rw e in
           rw (ne_eqb u.upid_type 10 ne, ← ez, not-false z t, eq-eqb u.upid_type 0 e, k) (go (eqb u.bytes.len 0) refl)
         where
-          go : (b : Bool) → eqb u.bytes.len 0 ≡ b → b ≡ b && accepts (checkOf (writtenType u) (viewed lent u.bytes))
+          go : (b : Bool) → eqb u.bytes.len 0 ≡ b → b ≡ b && accepts (check_of (written_type u) (viewed lent u.bytes))
           go true w = rw (no_bytes (eqb-true u.bytes.len 0 w))
           go false w = refl
 
       module _ (k : u.upid_type ≡ 0 → ⊥) where
-        pub upid-empty : u.bytes.len ≡ 0 → false ≡ writableUpid u eidr lent
-        unfolding writableUpid
-        upid-empty e = rw (ne_eqb u.upid_type 10 ne, ← ez, not-false z t, ne_eqb u.upid_type 0 k, eq-eqb u.bytes.len 0 e)
+        pub upid_empty : u.bytes.len ≡ 0 → false ≡ writable_upid u eidr lent
+        unfolding writable_upid
+        upid_empty e = rw (ne_eqb u.upid_type 10 ne, ← ez, not-false z t, ne_eqb u.upid_type 0 k, eq-eqb u.bytes.len 0 e)
 
         module _ (l : u.bytes.len ≡ 0 → ⊥) where
-          pub upid-five : u.upid_type ≡ 5 → false ≡ writableUpid u eidr lent
-          unfolding writableUpid
-          upid-five e = rw (ne_eqb u.upid_type 10 ne, ← ez, not-false z t, ne_eqb u.upid_type 0 k, ne_eqb u.bytes.len 0 l, eq-eqb u.upid_type 5 e)
+          pub upid_five : u.upid_type ≡ 5 → false ≡ writable_upid u eidr lent
+          unfolding writable_upid
+          upid_five e = rw (ne_eqb u.upid_type 10 ne, ← ez, not-false z t, ne_eqb u.upid_type 0 k, ne_eqb u.bytes.len 0 l, eq-eqb u.upid_type 5 e)
 
-          pub upid-read : (u.upid_type ≡ 5 → ⊥) → (part : List ℕ) (w : ℕ) (r : UpidRead) → part ≡ viewed lent u.bytes → w ≡ writtenType u → r ≡ checkOf w part
-              → accepts r ≡ writableUpid u eidr lent
-          unfolding writableUpid
-          upid-read f part w r ep ew er =
+          pub upid_read_lem : (u.upid_type ≡ 5 → ⊥) → (part : List ℕ) (w : ℕ) (r : UpidRead) → part ≡ viewed lent u.bytes → w ≡ written_type u → r ≡ check_of w part
+              → accepts r ≡ writable_upid u eidr lent
+          unfolding writable_upid
+          upid_read_lem f part w r ep ew er =
               rw (ne_eqb u.upid_type 10 ne, ← ez, not-false z t, ne_eqb u.upid_type 0 k, ne_eqb u.bytes.len 0 l, ne_eqb u.upid_type 5 f, ← ep, ← ew, ← er)
 
 -- ---- the numbers of an active segmentation: those of components that fit change nothing
-pub numbers-with : (i : SegmentationDetail) (cs : List SegmentationComponent) (n : Bool) → within (modeFields i.segmentation_mode cs) ≡ true
-    → (n ≡ numbersFit i []) × (count_of i.segmentation_mode < 256) → (n ≡ numbersFit i cs) × (count_of i.segmentation_mode < 256)
-unfolding numbersFit
-numbers-with i cs n f e =
-    (e.0 ∙ ap (λ (b : Bool). b && (within (durationFields i.segmentation_duration) && within (backFields i))) (none-fits i.segmentation_mode e.1 ∙ sym f), e.1)
+pub numbers_with : (i : SegmentationDetail) (cs : List SegmentationComponent) (n : Bool) → within (mode_fields i.segmentation_mode cs) ≡ true
+    → (n ≡ numbers_fit i []) × (count_of i.segmentation_mode < 256) → (n ≡ numbers_fit i cs) × (count_of i.segmentation_mode < 256)
+unfolding numbers_fit
+numbers_with i cs n f e =
+    (e.0 ∙ ap (λ (b : Bool). b && (within (duration_fields i.segmentation_duration) && within (back_fields i))) (none_fits i.segmentation_mode e.1 ∙ sym f), e.1)
 
-module _ (i : SegmentationDetail) (cs : List SegmentationComponent) (m : Bool) (em : m ≡ within (modeFields i.segmentation_mode cs)) where
-  pub no-mode-fit : not m ≡ true → false ≡ numbersFit i cs
-  unfolding numbersFit
-  no-mode-fit t = rw (← em, not-true m t)
+module _ (i : SegmentationDetail) (cs : List SegmentationComponent) (m : Bool) (em : m ≡ within (mode_fields i.segmentation_mode cs)) where
+  pub no_mode_fit : not m ≡ true → false ≡ numbers_fit i cs
+  unfolding numbers_fit
+  no_mode_fit t = rw (← em, not-true m t)
 
-  module _ (t : not m ≡ false) (d : Bool) (ed : d ≡ within (durationFields i.segmentation_duration)) where
-    pub no-duration-fit : not d ≡ true → false ≡ numbersFit i cs
-    unfolding numbersFit
-    no-duration-fit u = rw (← em, not-false m t, ← ed, not-true d u)
+  module _ (t : not m ≡ false) (d : Bool) (ed : d ≡ within (duration_fields i.segmentation_duration)) where
+    pub no_duration_fit : not d ≡ true → false ≡ numbers_fit i cs
+    unfolding numbers_fit
+    no_duration_fit u = rw (← em, not-false m t, ← ed, not-true d u)
 
-    module _ (u : not d ≡ false) (n w : ℕ) (en : n ≡ segmentationNumber i.segmentation_type_id) (ew : w ≡ n) where
-      pub no-type-fit : 255 < w → false ≡ numbersFit i cs
-      unfolding numbersFit
-      no-type-fit h = rw (← em, not-false m t, ← ed, not-false d u, le-ltb (segmentationNumber i.segmentation_type_id) 256 (omega arith))
+    module _ (u : not d ≡ false) (n w : ℕ) (en : n ≡ segmentation_number i.segmentation_type_id) (ew : w ≡ n) where
+      pub no_type_fit : 255 < w → false ≡ numbers_fit i cs
+      unfolding numbers_fit
+      no_type_fit h = rw (← em, not-false m t, ← ed, not-false d u, le-ltb (segmentation_number i.segmentation_type_id) 256 (omega arith))
 
-      pub sub-fits : w ≤ 255 → i.segment_num < 256 → i.segments_expected < 256 → (s : Bool) → s ≡ within (subFields i.sub_segments) → s ≡ numbersFit i cs
-      unfolding numbersFit
-      sub-fits h a b s es =
+      pub sub_fits : w ≤ 255 → i.segment_num < 256 → i.segments_expected < 256 → (s : Bool) → s ≡ within (sub_fields i.sub_segments) → s ≡ numbers_fit i cs
+      unfolding numbers_fit
+      sub_fits h a b s es =
           rw (
             ← em,
             not-false m t,
             ← ed,
             not-false d u,
-            lt-ltb (segmentationNumber i.segmentation_type_id) 256 (omega arith),
+            lt-ltb (segmentation_number i.segmentation_type_id) 256 (omega arith),
             lt-ltb i.segment_num 256 a,
             lt-ltb i.segments_expected 256 b,
           ) es

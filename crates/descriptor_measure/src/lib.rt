@@ -1,6 +1,6 @@
 // What the descriptor writer makes of an item: the values that it refuses, and the bytes that it takes (document 01, "Canonical form and writer").
 ghost use Rattle.std.specs.Prelude.{◌≡◌};
-ghost use Rattle.descriptor_measure.specs.Writing.{allZero, alone, writableReserved};
+ghost use Rattle.descriptor_measure.specs.Writing.{all_zero, alone, writable_reserved};
 
 use descriptor::is_cuei;
 
@@ -9,7 +9,7 @@ pub mod upids;
 
 // Whether an identifier or an EIDR is the blank that readers leave.
 pub fn is_zero(bytes: &[u8]) -> bool
-    ensures { result ≡ allZero bytes.now }
+    ensures { result ≡ all_zero bytes.now }
 {
     let mut i = 0;
     while i < bytes.len() {
@@ -33,7 +33,7 @@ pub fn is_alone(identifier: [u8; 4], eidr: [u8; 12]) -> bool
 
 // Whether a reserved descriptor may have this tag, with this identifier and EIDR beside it.
 pub fn is_writable_reserved(tag: u8, identifier: [u8; 4], eidr: [u8; 12]) -> bool
-    ensures { result ≡ writableReserved tag identifier eidr }
+    ensures { result ≡ writable_reserved tag identifier eidr }
 {
     if !is_zero(&eidr[..]) {
         return false;

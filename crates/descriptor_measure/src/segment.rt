@@ -1,12 +1,12 @@
 // A segmentation descriptor that is written: refusals 31 to 33, and its bytes.
 ghost use Rattle.std.specs.Prelude.{◌≡◌, ◌<◌, [], take};
-ghost use Rattle.descriptor.specs.Segmentation.{componentCount, agrees, byProgram, count_of, writableDetail, lasting, unrestricted, subBytes, modeSize, durationSize};
+ghost use Rattle.descriptor.specs.Segmentation.{component_count, agrees, by_program, count_of, writable_detail, lasting, unrestricted, sub_bytes, mode_size, duration_size};
 ghost use Rattle.descriptor.specs.Full.{filled};
 ghost use Rattle.descriptor.specs.declared.segmentation.DescriptorDetail.TheVariants.{Active};
-ghost use Rattle.table.specs.Writing.{within, refusalIn};
-ghost use Rattle.descriptor_measure.specs.Private.{componentsFields, modeFields, durationFields, subFields, numbersFit};
+ghost use Rattle.table.specs.Writing.{within, refusal_in};
+ghost use Rattle.descriptor_measure.specs.Private.{components_fields, mode_fields, duration_fields, sub_fields, numbers_fit};
 ghost use Rattle.descriptor_measure.specs.Private.{RefusedSo};
-ghost use Rattle.descriptor_measure.specs.Writing.{segmentationMade};
+ghost use Rattle.descriptor_measure.specs.Writing.{segmentation_made};
 
 use crate::is_zero;
 use crate::upids::is_writable_upid;
@@ -22,7 +22,7 @@ use upid::MAX_UPID;
 // ---- what each flag should say
 
 pub fn by_program(mode: SegmentationMode) -> bool
-    ensures { result ≡ byProgram mode }
+    ensures { result ≡ by_program mode }
 {
     match mode {
         SegmentationMode::Program => true,
@@ -56,7 +56,7 @@ fn agree(flag: bool, says: bool) -> bool
 
 // Refusal 33: whether each flag says what its part says, and the type id is what its own number stands for.
 fn is_writable_active(i: SegmentationDetail) -> bool
-    ensures { result ≡ writableDetail (Active i) }
+    ensures { result ≡ writable_detail (Active i) }
 {
     let mode = i.segmentation_mode;
     let duration = i.segmentation_duration;
@@ -79,7 +79,7 @@ fn is_writable_active(i: SegmentationDetail) -> bool
 // The first n components. Places past them are not looked at.
 fn components_fit(components: [SegmentationComponent; MAX_COMPONENTS], n: usize) -> bool
     requires { n < 256 }
-    ensures { result ≡ within (componentsFields (take n components)) }
+    ensures { result ≡ within (components_fields (take n components)) }
 {
     let mut i: usize = 0;
     while i < n {
@@ -93,7 +93,7 @@ fn components_fit(components: [SegmentationComponent; MAX_COMPONENTS], n: usize)
 }
 
 fn mode_fits(mode: SegmentationMode, components: [SegmentationComponent; MAX_COMPONENTS]) -> bool
-    ensures { (result ≡ within (modeFields mode (take (count_of mode) components))) × (count_of mode < 256) }
+    ensures { (result ≡ within (mode_fields mode (take (count_of mode) components))) × (count_of mode < 256) }
 {
     match mode {
         SegmentationMode::Program => true,
@@ -102,7 +102,7 @@ fn mode_fits(mode: SegmentationMode, components: [SegmentationComponent; MAX_COM
 }
 
 fn duration_fits(duration: SegmentationDuration) -> bool
-    ensures { result ≡ within (durationFields duration) }
+    ensures { result ≡ within (duration_fields duration) }
 {
     match duration {
         SegmentationDuration::Absent => true,
@@ -111,7 +111,7 @@ fn duration_fits(duration: SegmentationDuration) -> bool
 }
 
 fn sub_segments_fit(sub_segments: SubSegments) -> bool
-    ensures { result ≡ within (subFields sub_segments) }
+    ensures { result ≡ within (sub_fields sub_segments) }
 {
     match sub_segments {
         SubSegments::Absent => true,
@@ -126,7 +126,7 @@ fn sub_segments_fit(sub_segments: SubSegments) -> bool
 
 // Of a count alone, without its components.
 fn count_fits(mode: SegmentationMode) -> bool
-    ensures { (result ≡ within (modeFields mode [])) × (count_of mode < 256) }
+    ensures { (result ≡ within (mode_fields mode [])) × (count_of mode < 256) }
 {
     match mode {
         SegmentationMode::Program => true,
@@ -136,7 +136,7 @@ fn count_fits(mode: SegmentationMode) -> bool
 
 // All but the components' numbers.
 fn numbers_fit(i: SegmentationDetail) -> bool
-    ensures { (result ≡ numbersFit i []) × (count_of i.segmentation_mode < 256) }
+    ensures { (result ≡ numbers_fit i []) × (count_of i.segmentation_mode < 256) }
 {
     let mode = i.segmentation_mode;
     let duration = i.segmentation_duration;
@@ -220,7 +220,7 @@ pub fn refusal_with_no_components(
     eidr: [u8; 12],
     lent: &[u8],
 ) -> u8
-    ensures { result ≡ refusalIn (segmentationMade x identifier (record { components = filled []; eidr = eidr }) lent.now) }
+    ensures { result ≡ refusal_in (segmentation_made x identifier (record { components = filled []; eidr = eidr }) lent.now) }
 {
     refusal_without_components(x, identifier, eidr, lent)
 }
@@ -232,7 +232,7 @@ pub fn refusal_of_segmentation(
     eidr: [u8; 12],
     lent: &[u8],
 ) -> u8
-    ensures { result ≡ refusalIn (segmentationMade x identifier (record { components = components; eidr = eidr }) lent.now) }
+    ensures { result ≡ refusal_in (segmentation_made x identifier (record { components = components; eidr = eidr }) lent.now) }
 {
     let detail = x.descriptor_detail;
     let i = match detail {
@@ -257,7 +257,7 @@ pub fn refusal_of_segmentation(
 
 // How many components it has.
 pub fn count_in_segmentation(x: SegmentationDescriptor) -> u8
-    ensures { result ≡ componentCount x }
+    ensures { result ≡ component_count x }
 {
     let detail = x.descriptor_detail;
     let active = match detail {
@@ -272,7 +272,7 @@ pub fn count_in_segmentation(x: SegmentationDescriptor) -> u8
 }
 
 pub fn mode_size(mode: SegmentationMode) -> usize
-    ensures { (result ≡ modeSize mode) × (result < 1532) }
+    ensures { (result ≡ mode_size mode) × (result < 1532) }
 {
     match mode {
         SegmentationMode::Program => 0,
@@ -281,7 +281,7 @@ pub fn mode_size(mode: SegmentationMode) -> usize
 }
 
 pub fn duration_size(duration: SegmentationDuration) -> usize
-    ensures { (result ≡ durationSize duration) × (result < 6) }
+    ensures { (result ≡ duration_size duration) × (result < 6) }
 {
     match duration {
         SegmentationDuration::Absent => 0,
@@ -290,7 +290,7 @@ pub fn duration_size(duration: SegmentationDuration) -> usize
 }
 
 pub fn sub_size(sub_segments: SubSegments) -> usize
-    ensures { (result ≡ subBytes sub_segments) × (result < 3) }
+    ensures { (result ≡ sub_bytes sub_segments) × (result < 3) }
 {
     match sub_segments {
         SubSegments::Absent => 0,

@@ -1,6 +1,6 @@
 // A UPID that is written.
 ghost use Rattle.std.specs.Prelude.{◌≡◌};
-ghost use Rattle.descriptor_measure.specs.Writing.{writtenType, writtenUpid, writableUpid};
+ghost use Rattle.descriptor_measure.specs.Writing.{written_type, written_upid, writable_upid};
 
 use crate::is_zero;
 use descriptor::segmentation::SegmentationUpid;
@@ -9,7 +9,7 @@ use upid::{UPID_EIDR, UpidRead, check_upid};
 
 // The type as it is written: 5 of an eight-byte ISAN.
 pub fn written_type(u: SegmentationUpid) -> u8
-    ensures { result ≡ writtenType u }
+    ensures { result ≡ written_type u }
 {
     let bytes = u.bytes;
     if u.upid_type == 6 {
@@ -22,7 +22,7 @@ pub fn written_type(u: SegmentationUpid) -> u8
 
 // Refusal 33: whether a canonical reading may have this UPID, with this EIDR beside it.
 pub(crate) fn is_writable_upid(u: SegmentationUpid, eidr: [u8; 12], lent: &[u8]) -> bool
-    ensures { result ≡ writableUpid u eidr lent.now }
+    ensures { result ≡ writable_upid u eidr lent.now }
 {
     let bytes = u.bytes;
     if u.upid_type == UPID_EIDR {
@@ -49,7 +49,7 @@ pub(crate) fn is_writable_upid(u: SegmentationUpid, eidr: [u8; 12], lent: &[u8])
 
 // How many bytes of it are written: twelve of an EIDR.
 pub fn upid_size(u: SegmentationUpid) -> usize
-    ensures { result ≡ (writtenUpid u).bytes.len }
+    ensures { result ≡ (written_upid u).bytes.len }
 {
     let bytes = u.bytes;
     if u.upid_type == UPID_EIDR {

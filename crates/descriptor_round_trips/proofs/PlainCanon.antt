@@ -8,51 +8,51 @@ use lib.Dec.{ltb, eqb}
 use lib.ListN.{length, replicate}
 use borrow.Author.Tests.{le-ltb}
 use Rattle.table.specs.Bits.{bits_of, AllBytes}
-use Rattle.table.specs.Table.{got, parse, canonicalBy}
+use Rattle.table.specs.Table.{got, parse, canonical_by}
 use Rattle.table.specs.Writing.{made, make}
 use Rattle.table.specs.declared.View.{View}
 use Rattle.table.proofs.Structure as laws
-use Rattle.descriptor.specs.Descriptor.{availOf, dtmfOf, timeOf, reservedOf, isCuei}
-use Rattle.descriptor.specs.Plain.{avail, dtmf, time, privateBytes}
-use Rattle.descriptor.specs.Full.{blankBeside}
+use Rattle.descriptor.specs.Descriptor.{avail_of, dtmf_of, time_of, reserved_of, is_cuei}
+use Rattle.descriptor.specs.Plain.{avail, dtmf, time, private_bytes}
+use Rattle.descriptor.specs.Full.{blank_beside}
 use Rattle.descriptor.specs.declared.Descriptor.TheVariants.{Avail, Dtmf, Time, Reserved}
 use Rattle.descriptor.specs.declared.DescriptorRead.TheVariants.{Is}
 use Rattle.descriptor.specs.declared.plain.AvailDescriptor.{AvailDescriptor}
 use Rattle.descriptor.specs.declared.plain.DTMFDescriptor.{DTMFDescriptor}
 use Rattle.descriptor.specs.declared.plain.TimeDescriptor.{TimeDescriptor}
-use Rattle.descriptor.proofs.Structures.{availStructure, dtmfStructure, timeStructure, privateStructure}
-use Rattle.descriptor_measure.specs.Writing.{allZero, alone, writableReserved, payloadMade}
-use Rattle.descriptor_round_trips.proofs.PlainLaws.{table-read-write}
+use Rattle.descriptor.proofs.Structures.{avail_structure, dtmf_structure, time_structure, private_structure}
+use Rattle.descriptor_measure.specs.Writing.{all_zero, alone, writable_reserved, payload_made}
+use Rattle.descriptor_round_trips.proofs.PlainLaws.{table_read_write}
 
 -- what readers leave beside these is blank
-blank-alone : alone (replicate 4 0) blankBeside.eidr ≡ true
-unfolding alone allZero blankBeside
-blank-alone = refl
+blank_alone : alone (replicate 4 0) blank_beside.eidr ≡ true
+unfolding alone all_zero blank_beside
+blank_alone = refl
 
 module _ (p : List ℕ) (a : AllBytes p) where
-  pub avail-read-write : canonicalBy avail p ≡ true → (x : AvailDescriptor) × (availOf p ≡ Is (Avail x)) × (payloadMade (Avail x) (replicate 4 0) blankBeside p ≡ made p)
-  unfolding availOf payloadMade
-  avail-read-write e =
-      let i = table-read-write avail availStructure (λ x. refl) p a e in
-      let n : length p ≡ 4 = laws.write-size avail availStructure p i.0 p tt i.2 in
-      (i.0, rw (le-ltb (length p) 4 (omega arith), i.1), rw blank-alone i.2)
+  pub avail_read_write : canonical_by avail p ≡ true → (x : AvailDescriptor) × (avail_of p ≡ Is (Avail x)) × (payload_made (Avail x) (replicate 4 0) blank_beside p ≡ made p)
+  unfolding avail_of payload_made
+  avail_read_write e =
+      let i = table_read_write avail avail_structure (λ x. refl) p a e in
+      let n : length p ≡ 4 = laws.write_size avail avail_structure p i.0 p tt i.2 in
+      (i.0, rw (le-ltb (length p) 4 (omega arith), i.1), rw blank_alone i.2)
 
-  pub time-read-write : canonicalBy time p ≡ true → (x : TimeDescriptor) × (timeOf p ≡ Is (Time x)) × (payloadMade (Time x) (replicate 4 0) blankBeside p ≡ made p)
-  unfolding timeOf payloadMade
-  time-read-write e =
-      let i = table-read-write time timeStructure (λ x. refl) p a e in
-      let n : length p ≡ 12 = laws.write-size time timeStructure p i.0 p tt i.2 in
-      (i.0, rw (le-ltb (length p) 12 (omega arith), i.1), rw blank-alone i.2)
+  pub time_read_write : canonical_by time p ≡ true → (x : TimeDescriptor) × (time_of p ≡ Is (Time x)) × (payload_made (Time x) (replicate 4 0) blank_beside p ≡ made p)
+  unfolding time_of payload_made
+  time_read_write e =
+      let i = table_read_write time time_structure (λ x. refl) p a e in
+      let n : length p ≡ 12 = laws.write_size time time_structure p i.0 p tt i.2 in
+      (i.0, rw (le-ltb (length p) 12 (omega arith), i.1), rw blank_alone i.2)
 
-  pub dtmf-read-write : canonicalBy dtmf p ≡ true → (x : DTMFDescriptor) × (dtmfOf p ≡ Is (Dtmf x)) × (payloadMade (Dtmf x) (replicate 4 0) blankBeside p ≡ made p)
-  unfolding dtmfOf payloadMade
-  dtmf-read-write e =
-      let i = table-read-write dtmf dtmfStructure (λ x. refl) p a e in
-      (i.0, rw i.1, rw blank-alone i.2)
+  pub dtmf_read_write : canonical_by dtmf p ≡ true → (x : DTMFDescriptor) × (dtmf_of p ≡ Is (Dtmf x)) × (payload_made (Dtmf x) (replicate 4 0) blank_beside p ≡ made p)
+  unfolding dtmf_of payload_made
+  dtmf_read_write e =
+      let i = table_read_write dtmf dtmf_structure (λ x. refl) p a e in
+      (i.0, rw i.1, rw blank_alone i.2)
 
-  pub reserved-read-write : (tag : ℕ) (id : List ℕ) → isCuei id && ltb tag 4 ≡ false → canonicalBy privateBytes p ≡ true
-      → (v : View) × (reservedOf tag p ≡ Is (Reserved tag v)) × (payloadMade (Reserved tag v) id blankBeside p ≡ made p)
-  unfolding reservedOf payloadMade writableReserved allZero blankBeside
-  reserved-read-write tag id h e =
-      let i = table-read-write privateBytes privateStructure (λ x. refl) p a e in
+  pub reserved_read_write : (tag : ℕ) (id : List ℕ) → is_cuei id && ltb tag 4 ≡ false → canonical_by private_bytes p ≡ true
+      → (v : View) × (reserved_of tag p ≡ Is (Reserved tag v)) × (payload_made (Reserved tag v) id blank_beside p ≡ made p)
+  unfolding reserved_of payload_made writable_reserved all_zero blank_beside
+  reserved_read_write tag id h e =
+      let i = table_read_write private_bytes private_structure (λ x. refl) p a e in
       (i.0, rw i.1, rw h i.2)

@@ -4,16 +4,16 @@ use mathlib.Core.Bool.{true, false}
 use mathlib.Core.List.{List, [], ◌∷◌}
 use mathlib.Core.Path.{◌≡◌, refl}
 use lib.ListN.{replicate}
-use Rattle.names.specs.Segmentation.{segmentationTypeOf, writableSegmentation}
+use Rattle.names.specs.Segmentation.{segmentation_type_of, writable_segmentation}
 use Rattle.table.specs.Lent.{viewed}
 use Rattle.table.specs.Table.{number, bit, reserved, part, remaining, list}
 use Rattle.table.specs.Writing.{made, refused}
 use Rattle.table.specs.declared.View.{View}
-use Rattle.upid.specs.Upid.{checkOf, read_of, plain_of, length_of, isText, reportedOf}
-use Rattle.descriptor.specs.Descriptor.{isCuei}
+use Rattle.upid.specs.Upid.{check_of, read_of, plain_of, length_of, is_text, reported_of}
+use Rattle.descriptor.specs.Descriptor.{is_cuei}
 use Rattle.descriptor.specs.Plain.{avail, dtmf}
-use Rattle.descriptor.specs.Segmentation.{deviceOf, deliveryRestrictions, mode, duration, writtenUpid, parts, front, subSegments, back, head, segmentation, writableFront, writableDetail}
-use Rattle.descriptor.specs.Full.{blankBeside}
+use Rattle.descriptor.specs.Segmentation.{device_of, delivery_restrictions, mode, duration, written_upid, parts, front, sub_segments, back, head, segmentation, writable_front, writable_detail}
+use Rattle.descriptor.specs.Full.{blank_beside}
 use Rattle.descriptor.specs.declared.Descriptor.{Descriptor}
 use Rattle.descriptor.specs.declared.Descriptor.TheVariants.{Avail, Dtmf, Segmentation}
 use Rattle.descriptor.specs.declared.segmentation.DeliveryRestrictionFlags.{DeliveryRestrictionFlags}
@@ -23,7 +23,7 @@ use Rattle.descriptor.specs.declared.segmentation.SegmentationMode.{Segmentation
 use Rattle.descriptor.specs.declared.segmentation.SegmentationUpid.{SegmentationUpid}
 use Rattle.descriptor.specs.declared.segmentation.SubSegments.{SubSegments}
 use Rattle.descriptor_measure.specs.Writing as w
-use Rattle.descriptor_measure.specs.Writing.{descriptorMade, payloadMade, envelopedMade, enveloped, alone, allZero, segmentationMade, writableSegment, writableUpid, writtenType, upidSource}
+use Rattle.descriptor_measure.specs.Writing.{descriptor_made, payload_made, enveloped_made, enveloped, alone, all_zero, segmentation_made, writable_segment, writable_upid, written_type, upid_source}
 
 abbrev none : List ℕ
 none = replicate 4 0
@@ -32,18 +32,18 @@ none = replicate 4 0
 abbrev chars : Descriptor
 chars = Dtmf (record { preroll = 177; dtmf_chars = record { at = 2; len = 1 } })
 
-pub row-g : descriptorMade chars none blankBeside (0xb1 ∷ 0x3f ∷ 0x34 ∷ []) ≡ made (0x01 ∷ 0x07 ∷ 0x43 ∷ 0x55 ∷ 0x45 ∷ 0x49 ∷ 0xb1 ∷ 0x3f ∷ 0x34 ∷ [])
-unfolding descriptorMade payloadMade envelopedMade enveloped alone allZero blankBeside dtmf number reserved part
-row-g = refl
+pub row_g : descriptor_made chars none blank_beside (0xb1 ∷ 0x3f ∷ 0x34 ∷ []) ≡ made (0x01 ∷ 0x07 ∷ 0x43 ∷ 0x55 ∷ 0x45 ∷ 0x49 ∷ 0xb1 ∷ 0x3f ∷ 0x34 ∷ [])
+unfolding descriptor_made payload_made enveloped_made enveloped alone all_zero blank_beside dtmf number reserved part
+row_g = refl
 
 -- a view one byte too long; an identifier beside it
-pub row-31 : descriptorMade chars none blankBeside (0xb1 ∷ 0x3f ∷ []) ≡ refused 31
-unfolding descriptorMade payloadMade envelopedMade enveloped alone allZero blankBeside dtmf number reserved part
-row-31 = refl
+pub row_31 : descriptor_made chars none blank_beside (0xb1 ∷ 0x3f ∷ []) ≡ refused 31
+unfolding descriptor_made payload_made enveloped_made enveloped alone all_zero blank_beside dtmf number reserved part
+row_31 = refl
 
-pub row-33 : descriptorMade chars (1 ∷ 0 ∷ 0 ∷ 0 ∷ []) blankBeside (0xb1 ∷ 0x3f ∷ 0x34 ∷ []) ≡ refused 33
-unfolding descriptorMade payloadMade envelopedMade enveloped alone allZero blankBeside dtmf number reserved part
-row-33 = refl
+pub row_33 : descriptor_made chars (1 ∷ 0 ∷ 0 ∷ 0 ∷ []) blank_beside (0xb1 ∷ 0x3f ∷ 0x34 ∷ []) ≡ refused 33
+unfolding descriptor_made payload_made enveloped_made enveloped alone all_zero blank_beside dtmf number reserved part
+row_33 = refl
 
 -- row n, and the same with a UPID
 abbrev start : SegmentationUpid → Descriptor
@@ -57,29 +57,29 @@ start upid = Segmentation (record {
     segmentation_mode = SegmentationMode.Program;
     segmentation_duration = SegmentationDuration.Absent;
     segmentation_upid = upid;
-    segmentation_type_id = segmentationTypeOf 0x10;
+    segmentation_type_id = segmentation_type_of 0x10;
     segment_num = 1;
     segments_expected = 1;
     sub_segments = SubSegments.Absent;
   });
 })
 
-pub row_n : descriptorMade (start (record { upid_type = 0; bytes = record { at = 0; len = 0 } })) none blankBeside []
+pub row_n : descriptor_made (start (record { upid_type = 0; bytes = record { at = 0; len = 0 } })) none blank_beside []
     ≡ made (0x02 ∷ 0x0f ∷ 0x43 ∷ 0x55 ∷ 0x45 ∷ 0x49 ∷ 0 ∷ 0 ∷ 0 ∷ 0x2a ∷ 0x7f ∷ 0xbf ∷ 0 ∷ 0 ∷ 0x10 ∷ 1 ∷ 1 ∷ [])
-unfolding descriptorMade payloadMade envelopedMade enveloped segmentationMade writableSegment writableUpid writtenType w.writtenUpid upidSource allZero blankBeside segmentation head front parts deliveryRestrictions mode duration writtenUpid back subSegments number bit reserved part remaining viewed checkOf writableDetail writableFront writableSegmentation segmentationTypeOf
+unfolding descriptor_made payload_made enveloped_made enveloped segmentation_made writable_segment writable_upid written_type w.written_upid upid_source all_zero blank_beside segmentation head front parts delivery_restrictions mode duration written_upid back sub_segments number bit reserved part remaining viewed check_of writable_detail writable_front writable_segmentation segmentation_type_of
 row_n = refl
 
 -- an eight-byte ISAN is of kind 6, and written as type 5
-pub row-isan : descriptorMade (start (record { upid_type = 6; bytes = record { at = 0; len = 8 } })) none blankBeside (1 ∷ 2 ∷ 3 ∷ 4 ∷ 5 ∷ 6 ∷ 7 ∷ 8 ∷ [])
+pub row_isan : descriptor_made (start (record { upid_type = 6; bytes = record { at = 0; len = 8 } })) none blank_beside (1 ∷ 2 ∷ 3 ∷ 4 ∷ 5 ∷ 6 ∷ 7 ∷ 8 ∷ [])
     ≡ made (0x02 ∷ 0x17 ∷ 0x43 ∷ 0x55 ∷ 0x45 ∷ 0x49 ∷ 0 ∷ 0 ∷ 0 ∷ 0x2a ∷ 0x7f ∷ 0xbf ∷ 5 ∷ 8 ∷ 1 ∷ 2 ∷ 3 ∷ 4 ∷ 5 ∷ 6 ∷ 7 ∷ 8 ∷ 0x10 ∷ 1 ∷ 1 ∷ [])
-unfolding descriptorMade payloadMade envelopedMade enveloped segmentationMade writableSegment writableUpid writtenType w.writtenUpid upidSource allZero blankBeside segmentation head front parts deliveryRestrictions mode duration writtenUpid back subSegments number bit reserved part remaining viewed checkOf read_of plain_of length_of isText reportedOf writableDetail writableFront writableSegmentation segmentationTypeOf
-row-isan = refl
+unfolding descriptor_made payload_made enveloped_made enveloped segmentation_made writable_segment writable_upid written_type w.written_upid upid_source all_zero blank_beside segmentation head front parts delivery_restrictions mode duration written_upid back sub_segments number bit reserved part remaining viewed check_of read_of plain_of length_of is_text reported_of writable_detail writable_front writable_segmentation segmentation_type_of
+row_isan = refl
 
 -- type 5 is none that a reading has; nor is an empty UPID other than None
-pub row-5 : descriptorMade (start (record { upid_type = 5; bytes = record { at = 0; len = 8 } })) none blankBeside (1 ∷ 2 ∷ 3 ∷ 4 ∷ 5 ∷ 6 ∷ 7 ∷ 8 ∷ []) ≡ refused 33
-unfolding descriptorMade payloadMade envelopedMade enveloped segmentationMade writableSegment writableUpid writtenType w.writtenUpid upidSource allZero blankBeside segmentation head front parts deliveryRestrictions mode duration writtenUpid back subSegments number bit reserved part remaining viewed checkOf read_of plain_of length_of isText reportedOf writableDetail writableFront writableSegmentation segmentationTypeOf
-row-5 = refl
+pub row_5 : descriptor_made (start (record { upid_type = 5; bytes = record { at = 0; len = 8 } })) none blank_beside (1 ∷ 2 ∷ 3 ∷ 4 ∷ 5 ∷ 6 ∷ 7 ∷ 8 ∷ []) ≡ refused 33
+unfolding descriptor_made payload_made enveloped_made enveloped segmentation_made writable_segment writable_upid written_type w.written_upid upid_source all_zero blank_beside segmentation head front parts delivery_restrictions mode duration written_upid back sub_segments number bit reserved part remaining viewed check_of read_of plain_of length_of is_text reported_of writable_detail writable_front writable_segmentation segmentation_type_of
+row_5 = refl
 
-pub row-empty : descriptorMade (start (record { upid_type = 7; bytes = record { at = 0; len = 0 } })) none blankBeside [] ≡ refused 33
-unfolding descriptorMade payloadMade envelopedMade enveloped segmentationMade writableSegment writableUpid writtenType w.writtenUpid upidSource allZero blankBeside segmentation head front parts deliveryRestrictions mode duration writtenUpid back subSegments number bit reserved part remaining viewed checkOf read_of plain_of length_of isText reportedOf writableDetail writableFront writableSegmentation segmentationTypeOf
-row-empty = refl
+pub row_empty : descriptor_made (start (record { upid_type = 7; bytes = record { at = 0; len = 0 } })) none blank_beside [] ≡ refused 33
+unfolding descriptor_made payload_made enveloped_made enveloped segmentation_made writable_segment writable_upid written_type w.written_upid upid_source all_zero blank_beside segmentation head front parts delivery_restrictions mode duration written_upid back sub_segments number bit reserved part remaining viewed check_of read_of plain_of length_of is_text reported_of writable_detail writable_front writable_segmentation segmentation_type_of
+row_empty = refl

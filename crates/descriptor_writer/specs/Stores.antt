@@ -1,10 +1,10 @@
 -- What the contracts of the writer's functions say.
 use Rattle.std.specs.Prelude.{ℕ, List, ◌≡◌}
 use Rattle.table.specs.Writing.{Made}
-use Rattle.bit_stores.specs.Written.{answer_of, laterOf}
+use Rattle.bit_stores.specs.Written.{answer_of, later_of}
 use Rattle.bit_stores.specs.declared.Written.{Written}
 
 -- what is made was written: the answer and the target's later bytes
 pub record Writes (m : Made) (target : List ℕ) (later : List ℕ) (r : Written) : Type 0 where
   pub answer : r ≡ answer_of m target
-  pub target-later : later ≡ laterOf m target
+  pub target_later : later ≡ later_of m target

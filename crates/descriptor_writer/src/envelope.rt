@@ -2,7 +2,7 @@
 ghost use Rattle.std.specs.Prelude.{◌≡◌, ◌∷◌, ◌<◌, ◌≤◌};
 ghost use Rattle.descriptor_measure.specs.Writing.{cuei};
 ghost use Rattle.table.specs.Bits.{AllBytes};
-ghost use Rattle.descriptor_writer.specs.Private.{Stores, start, envelopeContents};
+ghost use Rattle.descriptor_writer.specs.Private.{Stores, start, envelope_contents};
 
 use bit_stores::{put_bits, put_run};
 use table::cursor::Cursor;
@@ -20,7 +20,7 @@ pub(crate) fn cuei() -> [u8; 4]
 // From the target's first byte on.
 pub(crate) fn store_envelope(out: &mut [u8], tag: u8, len: usize, identifier: &[u8]) -> Cursor
     requires { len < 256 }
-    ensures { Stores out.old start (envelopeContents tag len identifier.now) out.new result × AllBytes (tag ∷ (len ∷ identifier.now)) × AllBytes out.old }
+    ensures { Stores out.old start (envelope_contents tag len identifier.now) out.new result × AllBytes (tag ∷ (len ∷ identifier.now)) × AllBytes out.old }
 {
     let first = Cursor { byte: 0, bit: 0 };
     let second = put_bits(out, first, 8, wide(tag));

@@ -2,7 +2,7 @@
 // refused write changes no byte.
 ghost use Rattle.std.specs.Prelude.{[]};
 ghost use Rattle.descriptor.specs.Full.{filled};
-ghost use Rattle.descriptor_measure.specs.Writing.{descriptorMade};
+ghost use Rattle.descriptor_measure.specs.Writing.{descriptor_made};
 ghost use Rattle.descriptor_writer.specs.Stores.{Writes};
 
 use crate::plain::{write_avail, write_dtmf, write_reserved, write_time};
@@ -25,7 +25,7 @@ pub fn write_descriptor_without_components(
     lent: &[u8],
     target: &mut [u8],
 ) -> Written
-    ensures { Writes (descriptorMade d identifier (record { components = filled []; eidr = eidr }) lent.now) target.old target.new result }
+    ensures { Writes (descriptor_made d identifier (record { components = filled []; eidr = eidr }) lent.now) target.old target.new result }
 {
     match d {
         Descriptor::Avail(x) => write_avail(x, identifier, eidr, target),
@@ -48,7 +48,7 @@ pub fn write_descriptor(
     lent: &[u8],
     target: &mut [u8],
 ) -> Written
-    ensures { Writes (descriptorMade d identifier beside lent.now) target.old target.new result }
+    ensures { Writes (descriptor_made d identifier beside lent.now) target.old target.new result }
 {
     let eidr = beside.eidr;
     let x = match d {

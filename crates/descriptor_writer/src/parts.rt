@@ -2,9 +2,9 @@
 // leaves the cursor as any other does.
 ghost use Rattle.std.specs.Prelude.{◌≡◌, List, [], ◌∷◌, ◌++◌, ℕ, ◌<◌, take};
 ghost use Rattle.descriptor.specs.declared.segmentation.SegmentationComponent.{SegmentationComponent};
-ghost use Rattle.descriptor_measure.specs.Private.{headFields, flagFields, deliveryFields, componentsFields, modeFields, durationFields, subFields, backFields};
+ghost use Rattle.descriptor_measure.specs.Private.{head_fields, flag_fields, delivery_fields, components_fields, mode_fields, duration_fields, sub_fields, back_fields};
 ghost use Rattle.table.specs.Writing.{number, contents, print};
-ghost use Rattle.descriptor_writer.specs.Private.{Stores, componentBytes};
+ghost use Rattle.descriptor_writer.specs.Private.{Stores, component_bytes};
 
 use bit_stores::{put_bits, put_run};
 use descriptor::segmentation::{
@@ -15,7 +15,7 @@ use table::cursor::Cursor;
 use table::numbers::{flag_number, wide};
 
 pub(crate) fn store_head(out: &mut [u8], c: Cursor, event: u32, cancel: bool) -> Cursor
-    ensures { (from : List ℕ) → Stores out.old c (contents from (headFields event cancel)) out.new result }
+    ensures { (from : List ℕ) → Stores out.old c (contents from (head_fields event cancel)) out.new result }
 {
     put_bits(
         out,
@@ -27,7 +27,7 @@ pub(crate) fn store_head(out: &mut [u8], c: Cursor, event: u32, cancel: bool) ->
 
 // The five bits behind the flags: what is restricted, or reserved bits.
 fn delivery_number(delivery: DeliveryRestrictionFlags) -> u64
-    ensures { (result < 32) × ((from : List ℕ) → print (contents from (deliveryFields delivery)) ≡ print (number 5 result ∷ [])) }
+    ensures { (result < 32) × ((from : List ℕ) → print (contents from (delivery_fields delivery)) ≡ print (number 5 result ∷ [])) }
 {
     match delivery {
         DeliveryRestrictionFlags::None => 31,
@@ -50,7 +50,7 @@ pub(crate) fn store_flags(
     free: bool,
     delivery: DeliveryRestrictionFlags,
 ) -> Cursor
-    ensures { (from : List ℕ) → Stores out.old c (contents from (flagFields program lasts free ++ deliveryFields delivery)) out.new result }
+    ensures { (from : List ℕ) → Stores out.old c (contents from (flag_fields program lasts free ++ delivery_fields delivery)) out.new result }
 {
     let first = flag_number(program);
     let second = flag_number(lasts);
@@ -61,7 +61,7 @@ pub(crate) fn store_flags(
 
 // (The offset fits its 33 bits, which the remainder says to the proof.)
 fn store_component(out: &mut [u8], c: Cursor, component: SegmentationComponent) -> Cursor
-    ensures { (from : List ℕ) → Stores out.old c (contents from (componentsFields (component ∷ []))) out.new result }
+    ensures { (from : List ℕ) → Stores out.old c (contents from (components_fields (component ∷ []))) out.new result }
 {
     let tag = wide(component.component_tag);
     put_bits(
@@ -80,7 +80,7 @@ pub(crate) fn store_components(
     n: usize,
 ) -> Cursor
     requires { n < 256 }
-    ensures { (from : List ℕ) → Stores out.old c (contents from (componentsFields (take n components))) out.new result }
+    ensures { (from : List ℕ) → Stores out.old c (contents from (components_fields (take n components))) out.new result }
 {
     let mut next = put_bits(out, c, 0, 0);
     let mut i: usize = 0;
@@ -94,7 +94,7 @@ pub(crate) fn store_components(
 
 // With its components' bytes.
 pub(crate) fn store_mode(out: &mut [u8], c: Cursor, mode: SegmentationMode, listed: &[u8]) -> Cursor
-    ensures { (from : List ℕ) (cs : List SegmentationComponent) → listed.now ≡ componentBytes cs → Stores out.old c (contents from (modeFields mode cs)) out.new result }
+    ensures { (from : List ℕ) (cs : List SegmentationComponent) → listed.now ≡ component_bytes cs → Stores out.old c (contents from (mode_fields mode cs)) out.new result }
 {
     match mode {
         SegmentationMode::Program => put_bits(out, c, 0, 0),
@@ -106,7 +106,7 @@ pub(crate) fn store_mode(out: &mut [u8], c: Cursor, mode: SegmentationMode, list
 }
 
 pub(crate) fn store_duration(out: &mut [u8], c: Cursor, duration: SegmentationDuration) -> Cursor
-    ensures { (from : List ℕ) → Stores out.old c (contents from (durationFields duration)) out.new result }
+    ensures { (from : List ℕ) → Stores out.old c (contents from (duration_fields duration)) out.new result }
 {
     match duration {
         SegmentationDuration::Absent => put_bits(out, c, 0, 0),
@@ -115,7 +115,7 @@ pub(crate) fn store_duration(out: &mut [u8], c: Cursor, duration: SegmentationDu
 }
 
 fn store_sub_segments(out: &mut [u8], c: Cursor, sub_segments: SubSegments) -> Cursor
-    ensures { (from : List ℕ) → Stores out.old c (contents from (subFields sub_segments)) out.new result }
+    ensures { (from : List ℕ) → Stores out.old c (contents from (sub_fields sub_segments)) out.new result }
 {
     match sub_segments {
         SubSegments::Absent => put_bits(out, c, 0, 0),
@@ -127,7 +127,7 @@ fn store_sub_segments(out: &mut [u8], c: Cursor, sub_segments: SubSegments) -> C
 }
 
 pub(crate) fn store_back(out: &mut [u8], c: Cursor, i: SegmentationDetail) -> Cursor
-    ensures { (from : List ℕ) → Stores out.old c (contents from (backFields i)) out.new result }
+    ensures { (from : List ℕ) → Stores out.old c (contents from (back_fields i)) out.new result }
 {
     let type_id = i.segmentation_type_id;
     let sub_segments = i.sub_segments;

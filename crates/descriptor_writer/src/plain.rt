@@ -1,7 +1,7 @@
 // Avail, DTMF, time and reserved descriptors.
 ghost use Rattle.std.specs.Prelude.{◌≡◌, []};
-ghost use Rattle.descriptor.specs.Plain.{avail, dtmf, time, privateBytes};
-ghost use Rattle.descriptor_measure.specs.Writing.{cuei, envelopedMade, alone, writableReserved};
+ghost use Rattle.descriptor.specs.Plain.{avail, dtmf, time, private_bytes};
+ghost use Rattle.descriptor_measure.specs.Writing.{cuei, enveloped_made, alone, writable_reserved};
 ghost use Rattle.table.specs.Writing.{make};
 ghost use Rattle.descriptor_writer.specs.Stores.{Writes};
 
@@ -19,7 +19,7 @@ pub(crate) fn write_avail(
     eidr: [u8; 12],
     target: &mut [u8],
 ) -> Written
-    ensures { Writes (envelopedMade 0 cuei (make avail (alone identifier eidr) [] x)) target.old target.new result }
+    ensures { Writes (enveloped_made 0 cuei (make avail (alone identifier eidr) [] x)) target.old target.new result }
 {
     if !is_alone(identifier, eidr) {
         return Written::Refused(33);
@@ -39,7 +39,7 @@ pub(crate) fn write_time(
     eidr: [u8; 12],
     target: &mut [u8],
 ) -> Written
-    ensures { Writes (envelopedMade 3 cuei (make time (alone identifier eidr) [] x)) target.old target.new result }
+    ensures { Writes (enveloped_made 3 cuei (make time (alone identifier eidr) [] x)) target.old target.new result }
 {
     if 0xffff_ffff_ffff < x.tai_seconds {
         return Written::Refused(32);
@@ -65,7 +65,7 @@ pub(crate) fn write_dtmf(
     lent: &[u8],
     target: &mut [u8],
 ) -> Written
-    ensures { Writes (envelopedMade 1 cuei (make dtmf (alone identifier eidr) lent.now x)) target.old target.new result }
+    ensures { Writes (enveloped_made 1 cuei (make dtmf (alone identifier eidr) lent.now x)) target.old target.new result }
 {
     let chars = x.dtmf_chars;
     if !lies_in(lent, chars) {
@@ -98,7 +98,7 @@ pub(crate) fn write_reserved(
     lent: &[u8],
     target: &mut [u8],
 ) -> Written
-    ensures { Writes (envelopedMade tag identifier (make privateBytes (writableReserved tag identifier eidr) lent.now private_bytes)) target.old target.new result }
+    ensures { Writes (enveloped_made tag identifier (make private_bytes (writable_reserved tag identifier eidr) lent.now private_bytes)) target.old target.new result }
 {
     if !lies_in(lent, private_bytes) {
         return Written::Refused(31);

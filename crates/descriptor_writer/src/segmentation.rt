@@ -1,14 +1,14 @@
 // Segmentation descriptors.
 ghost use Rattle.std.specs.Prelude.{◌≡◌, List, [], ◌+◌, ◌≤◌, length};
-ghost use Rattle.descriptor.specs.Segmentation.{componentCount, count_of};
+ghost use Rattle.descriptor.specs.Segmentation.{component_count, count_of};
 ghost use Rattle.descriptor.specs.Full.{filled};
 ghost use Rattle.descriptor.specs.declared.segmentation.SegmentationComponent.{SegmentationComponent};
 ghost use Rattle.descriptor.specs.declared.segmentation.DescriptorDetail.TheVariants.{Active};
-ghost use Rattle.descriptor_measure.specs.Private.{upidFields, activeFields, segmentFields, payloadSize};
-ghost use Rattle.descriptor_measure.specs.Writing.{cuei, envelopedMade, segmentationMade, upidIn, upidSource, writtenUpid};
+ghost use Rattle.descriptor_measure.specs.Private.{upid_fields, active_fields, segment_fields, payload_size};
+ghost use Rattle.descriptor_measure.specs.Writing.{cuei, enveloped_made, segmentation_made, upid_in, upid_source, written_upid};
 ghost use Rattle.table.specs.Writing.{contents};
 ghost use Rattle.descriptor_writer.specs.Stores.{Writes};
-ghost use Rattle.descriptor_writer.specs.Private.{Stores, WritesTested, componentBytes};
+ghost use Rattle.descriptor_writer.specs.Private.{Stores, WritesTested, component_bytes};
 
 use crate::envelope::{MAX_PAYLOAD, cuei, store_envelope};
 use crate::parts::{
@@ -34,7 +34,7 @@ use upid::UPID_EIDR;
 
 fn size_of_active(i: SegmentationDetail) -> usize
     requires { i.segmentation_upid.bytes.len ≤ 255 }
-    ensures { (result ≡ payloadSize (Active i)) × (count_of i.segmentation_mode ≤ 255) }
+    ensures { (result ≡ payload_size (Active i)) × (count_of i.segmentation_mode ≤ 255) }
 {
     let mode = i.segmentation_mode;
     let duration = i.segmentation_duration;
@@ -44,8 +44,8 @@ fn size_of_active(i: SegmentationDetail) -> usize
 }
 
 fn size_of(x: SegmentationDescriptor) -> usize
-    requires { (upidIn x).bytes.len ≤ 255 }
-    ensures { (result ≡ payloadSize x.descriptor_detail) × (componentCount x ≤ 255) }
+    requires { (upid_in x).bytes.len ≤ 255 }
+    ensures { (result ≡ payload_size x.descriptor_detail) × (component_count x ≤ 255) }
 {
     let detail = x.descriptor_detail;
     match detail {
@@ -65,7 +65,7 @@ fn store_written_upid(
     lent: &[u8],
 ) -> Cursor
     requires { u.bytes.at + u.bytes.len ≤ length lent.now }
-    ensures { Stores out.old c (contents (upidSource u eidr lent.now) (upidFields (writtenUpid u))) out.new result }
+    ensures { Stores out.old c (contents (upid_source u eidr lent.now) (upid_fields (written_upid u))) out.new result }
 {
     let upid_type = wide(written_type(u));
     let second = put_bits(out, c, 16, upid_type * 256 + upid_size(u) as u64 % 256);
@@ -86,7 +86,7 @@ fn store_active(
     lent: &[u8],
 ) -> Cursor
     requires { i.segmentation_upid.bytes.at + i.segmentation_upid.bytes.len ≤ length lent.now }
-    ensures { (cs : List SegmentationComponent) → listed.now ≡ componentBytes cs → Stores out.old c (contents (upidSource i.segmentation_upid eidr lent.now) (activeFields i cs)) out.new result }
+    ensures { (cs : List SegmentationComponent) → listed.now ≡ component_bytes cs → Stores out.old c (contents (upid_source i.segmentation_upid eidr lent.now) (active_fields i cs)) out.new result }
 {
     let mode = i.segmentation_mode;
     let duration = i.segmentation_duration;
@@ -108,8 +108,8 @@ fn store_segmentation(
     eidr: [u8; 12],
     lent: &[u8],
 ) -> Cursor
-    requires { (upidIn x).bytes.at + (upidIn x).bytes.len ≤ length lent.now }
-    ensures { (cs : List SegmentationComponent) → listed.now ≡ componentBytes cs → Stores out.old c (contents (upidSource (upidIn x) eidr lent.now) (segmentFields x.segmentation_event_id x.descriptor_detail cs)) out.new result }
+    requires { (upid_in x).bytes.at + (upid_in x).bytes.len ≤ length lent.now }
+    ensures { (cs : List SegmentationComponent) → listed.now ≡ component_bytes cs → Stores out.old c (contents (upid_source (upid_in x) eidr lent.now) (segment_fields x.segmentation_event_id x.descriptor_detail cs)) out.new result }
 {
     let detail = x.descriptor_detail;
     match detail {
@@ -131,7 +131,7 @@ fn write_tested_segmentation(
     lent: &[u8],
     target: &mut [u8],
 ) -> Written
-    requires { ((upidIn x).bytes.len ≤ 255) × ((upidIn x).bytes.at + (upidIn x).bytes.len ≤ length lent.now) }
+    requires { ((upid_in x).bytes.len ≤ 255) × ((upid_in x).bytes.at + (upid_in x).bytes.len ≤ length lent.now) }
     ensures { WritesTested x listed.now eidr lent.now target.old target.new result }
 {
     let size = size_of(x);
@@ -155,7 +155,7 @@ pub(crate) fn write_segmentation(
     lent: &[u8],
     target: &mut [u8],
 ) -> Written
-    ensures { Writes (envelopedMade 2 cuei (segmentationMade x identifier (record { components = components; eidr = eidr }) lent.now)) target.old target.new result }
+    ensures { Writes (enveloped_made 2 cuei (segmentation_made x identifier (record { components = components; eidr = eidr }) lent.now)) target.old target.new result }
 {
     let refusal = refusal_of_segmentation(x, identifier, components, eidr, lent);
     if refusal != 0 {
@@ -176,7 +176,7 @@ pub(crate) fn write_segmentation_without_components(
     lent: &[u8],
     target: &mut [u8],
 ) -> Written
-    ensures { Writes (envelopedMade 2 cuei (segmentationMade x identifier (record { components = filled []; eidr = eidr }) lent.now)) target.old target.new result }
+    ensures { Writes (enveloped_made 2 cuei (segmentation_made x identifier (record { components = filled []; eidr = eidr }) lent.now)) target.old target.new result }
 {
     if 0 < count_in_segmentation(x) {
         let blank = blank_beside();

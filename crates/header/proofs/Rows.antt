@@ -2,27 +2,27 @@
 use mathlib.Core.Bool.{false}
 use mathlib.Core.List.{List, [], ◌∷◌}
 use mathlib.Core.Path.{◌≡◌, refl}
-use Rattle.names.specs.Algorithm.{algorithmOf}
-use Rattle.names.specs.Command.{commandTypeOf}
+use Rattle.names.specs.Algorithm.{algorithm_of}
+use Rattle.names.specs.Command.{command_type_of}
 use Rattle.table.specs.Table.{number, bit}
-use Rattle.header.specs.Header.{spliceHeader, headerRead, headerOf, number_of}
+use Rattle.header.specs.Header.{splice_header, header_read, header_of, number_of}
 use Rattle.header.specs.declared.header.HeaderRead.TheVariants.{Header, NoHeader}
 
 -- 00 00 00 00 00 00 FF FF F0 05 06: the header of the standard's first sample
-pub sample : headerOf (0 ∷ 0 ∷ 0 ∷ 0 ∷ 0 ∷ 0 ∷ 0xff ∷ 0xff ∷ 0xf0 ∷ 5 ∷ 6 ∷ []) ≡ Header (record {
+pub sample : header_of (0 ∷ 0 ∷ 0 ∷ 0 ∷ 0 ∷ 0 ∷ 0xff ∷ 0xff ∷ 0xf0 ∷ 5 ∷ 6 ∷ []) ≡ Header (record {
   protocol_version = 0;
   encrypted_packet = false;
-  encryption_algorithm = algorithmOf 0;
+  encryption_algorithm = algorithm_of 0;
   pts_adjustment = 0;
   cw_index = 255;
   tier = 4095;
   splice_command_length = 5;
-  splice_command_type = commandTypeOf 6;
+  splice_command_type = command_type_of 6;
 })
-unfolding headerOf headerRead spliceHeader number bit
+unfolding header_of header_read splice_header number bit
 sample = refl
 
 -- refusal 5
-pub no_bytes : number_of (headerOf []) ≡ 5
-unfolding headerOf headerRead spliceHeader number bit
+pub no_bytes : number_of (header_of []) ≡ 5
+unfolding header_of header_read splice_header number bit
 no_bytes = refl

@@ -1,6 +1,6 @@
 // The splice header: eleven bytes after a section's first three.
 ghost use Rattle.std.specs.Prelude.{◌≡◌};
-ghost use Rattle.header.specs.Header.{headerOf};
+ghost use Rattle.header.specs.Header.{header_of};
 
 use header_numbers::{NumbersRead, read_header_numbers};
 use names::algorithm::EncryptionAlgorithm;
@@ -27,7 +27,7 @@ pub enum HeaderRead {
 
 // The header in the first eleven bytes: its numbers, of which algorithm and type are named.
 pub fn read_header(s: &[u8]) -> HeaderRead
-    ensures { result ≡ headerOf s.now }
+    ensures { result ≡ header_of s.now }
 {
     match read_header_numbers(s) {
         NumbersRead::Numbers(n) => HeaderRead::Header(SpliceInfoHeader {

@@ -1,13 +1,13 @@
--- The numbers of a splice header by their places in its bytes. That these are the places of its table (`spliceHeader`, crate header) is proved there
--- (`header-of-numbers`): nobody who believes the table need believe them.
+-- The numbers of a splice header by their places in its bytes. That these are the places of its table (`splice_header`, crate header) is proved there
+-- (`header_of_numbers`): nobody who believes the table need believe them.
 use Rattle.std.specs.Prelude.{ℕ, List, eqb, ltb, length}
 use Rattle.table.specs.Bits.{bits_of, field, pick}
 use Rattle.header_numbers.specs.declared.HeaderNumbers.{HeaderNumbers}
 use Rattle.header_numbers.specs.declared.NumbersRead.{NumbersRead}
 use Rattle.header_numbers.specs.declared.NumbersRead.TheVariants.{Numbers, NoHeader}
 
-unfoldable pub numbersIn : List ℕ → HeaderNumbers
-numbersIn s =
+unfoldable pub numbers_in : List ℕ → HeaderNumbers
+numbers_in s =
     record {
       protocol_version = field (bits_of s) 0 8;
       encrypted_packet = eqb (field (bits_of s) 8 1) 1;
@@ -20,5 +20,5 @@ numbersIn s =
     }
 
 -- eleven bytes, and no fewer
-unfoldable pub numbersRead : List ℕ → NumbersRead
-numbersRead s = pick (ltb (length s) 11) NoHeader (Numbers (numbersIn s))
+unfoldable pub numbers_read : List ℕ → NumbersRead
+numbers_read s = pick (ltb (length s) 11) NoHeader (Numbers (numbers_in s))

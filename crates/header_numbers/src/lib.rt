@@ -1,7 +1,7 @@
 // The numbers of a splice header, as they stand in its eleven bytes: none of them is named here. `header` names algorithm and type, the C boundary takes them
 // as they are, and neither takes the bytes apart again.
 ghost use Rattle.std.specs.Prelude.{◌≡◌};
-ghost use Rattle.header_numbers.specs.Numbers.{numbersRead};
+ghost use Rattle.header_numbers.specs.Numbers.{numbers_read};
 
 use table::numbers::{big_endian, time33, wide};
 
@@ -26,7 +26,7 @@ pub enum NumbersRead {
 
 // The numbers in the first eleven bytes.
 pub fn read_header_numbers(s: &[u8]) -> NumbersRead
-    ensures { result ≡ numbersRead s.now }
+    ensures { result ≡ numbers_read s.now }
 {
     if s.len() < 11 {
         return NumbersRead::NoHeader;

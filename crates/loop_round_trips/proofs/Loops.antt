@@ -13,31 +13,31 @@ use Rattle.table.specs.Bits.{AllBytes}
 use Rattle.table.specs.Writing.{made}
 use Rattle.table.specs.declared.View.{View}
 use Rattle.upid.specs.Cover.{All, none, more}
-use Rattle.descriptor.specs.Views.{descriptorViews}
-use Rattle.descriptor.specs.Private.{readViews}
+use Rattle.descriptor.specs.Views.{descriptor_views}
+use Rattle.descriptor.specs.Private.{read_views}
 use Rattle.descriptor.specs.Full.{full_of}
 use Rattle.descriptor.specs.declared.Descriptor.{Descriptor}
 use Rattle.descriptor.specs.declared.DescriptorRead.{DescriptorRead}
 use Rattle.descriptor.specs.declared.full.Beside.{Beside}
 use Rattle.descriptor.specs.declared.full.FullDescriptor.{FullDescriptor}
-use Rattle.descriptor.proofs.Insides.{read-inside}
-use Rattle.canonical_form.specs.Descriptor.{canonicalLoop}
-use Rattle.canonical_form.specs.Same.{bytesOfViews, Given, ItemBack, Pairs, over, pair, SameItem}
-use Rattle.descriptor_measure.specs.Writing.{countBeside, descriptorMade}
-use Rattle.descriptor_round_trips.specs.Making.{viewIn}
-use Rattle.descriptor_round_trips.specs.Trips.{fullIn, ReadAs, Handed}
-use Rattle.descriptor_round_trips.proofs.Alike.{SameView, NoneTold, made_told, alike-made, same-made}
-use Rattle.descriptor_round_trips.proofs.Theorems.{descriptor-write-read}
-use Rattle.descriptor_round_trips.proofs.FullTrips.{full-descriptor-read-write}
+use Rattle.descriptor.proofs.Insides.{read_inside}
+use Rattle.canonical_form.specs.Descriptor.{canonical_loop}
+use Rattle.canonical_form.specs.Same.{bytes_of_views, Given, ItemBack, Pairs, over, pair, SameItem}
+use Rattle.descriptor_measure.specs.Writing.{count_beside, descriptor_made}
+use Rattle.descriptor_round_trips.specs.Making.{view_in}
+use Rattle.descriptor_round_trips.specs.Trips.{full_in, ReadAs, Handed}
+use Rattle.descriptor_round_trips.proofs.Alike.{SameView, NoneTold, made_told, alike_made, same_made}
+use Rattle.descriptor_round_trips.proofs.Theorems.{descriptor_write_read}
+use Rattle.descriptor_round_trips.proofs.FullTrips.{full_descriptor_read_write}
 use Rattle.descriptor_loop.specs.Cover.{joined}
 use Rattle.descriptor_loop.specs.Items.{item_at, step_of, reading_of, Listed, listed, items_of}
-use Rattle.descriptor_loop.specs.Place.{movedDescriptor}
+use Rattle.descriptor_loop.specs.Place.{moved_descriptor}
 use Rattle.descriptor_loop.specs.declared.Item.{Item}
 use Rattle.descriptor_loop.specs.declared.Item.TheVariants.{Is}
 use Rattle.descriptor_loop.specs.declared.reading.Reading.{Reading}
-use Rattle.loop_round_trips.specs.Loops.{WrittenAgain, givenMade}
-use Rattle.loop_round_trips.proofs.Pieces.{Canonical, cut-canonical, At, Items, end, item, run_is, items-cut}
-use Rattle.loop_round_trips.proofs.Places.{moved-values, moved-count, moved_view, moved-bytes}
+use Rattle.loop_round_trips.specs.Loops.{WrittenAgain, given_made}
+use Rattle.loop_round_trips.proofs.Pieces.{Canonical, cut_canonical, At, Items, end, item, run_is, items_cut}
+use Rattle.loop_round_trips.proofs.Places.{moved_values, moved_count, moved_view, moved_bytes}
 
 -- ---- the bytes of the pieces
 
@@ -49,55 +49,55 @@ all_right : (t post : List ℕ) → AllBytes (t ++ post) → AllBytes post
 all_right [] post a = a
 all_right (b ∷ t) post a = all_right t post a.1
 
-pub all-pieces : (ts : List (List ℕ)) → AllBytes (joined ts) → All AllBytes ts
+pub all_pieces : (ts : List (List ℕ)) → AllBytes (joined ts) → All AllBytes ts
 unfolding joined
-all-pieces [] a = none
-all-pieces (t ∷ ts) a = more (all_left t (joined ts) a) (all-pieces ts (all_right t (joined ts) a))
+all_pieces [] a = none
+all_pieces (t ∷ ts) a = more (all_left t (joined ts) a) (all_pieces ts (all_right t (joined ts) a))
 
 -- ---- an item that is read where a piece stands
 
 module _ (loop : List ℕ) (offset : ℕ) (t : List ℕ) (a : At loop offset t) where
-  pub item-is : (step_of loop offset).item ≡ item_at (offset + 6) (fullIn t).read
+  pub item_is : (step_of loop offset).item ≡ item_at (offset + 6) (full_in t).read
   unfolding reading_of
-  item-is = ap (λ (r : Reading). r.step.item) a.reading
+  item_is = ap (λ (r : Reading). r.step.item) a.reading
 
-  pub identifier-is : (step_of loop offset).identifier ≡ (fullIn t).identifier
+  pub identifier_is : (step_of loop offset).identifier ≡ (full_in t).identifier
   unfolding reading_of
-  identifier-is = ap (λ (r : Reading). r.step.identifier) a.reading
+  identifier_is = ap (λ (r : Reading). r.step.identifier) a.reading
 
-  pub beside-is : (reading_of loop offset).beside ≡ (fullIn t).beside
-  beside-is = ap (λ (r : Reading). r.beside) a.reading
+  pub beside_is : (reading_of loop offset).beside ≡ (full_in t).beside
+  beside_is = ap (λ (r : Reading). r.beside) a.reading
 
   -- the piece is what is written of the item
   pub record Back : Type 0 where
     pub read : Descriptor
     pub is : (step_of loop offset).item ≡ Is read
-    pub writes : descriptorMade read (step_of loop offset).identifier (reading_of loop offset).beside loop ≡ made t
-    pub places : countBeside read ≤ length (reading_of loop offset).beside.components
+    pub writes : descriptor_made read (step_of loop offset).identifier (reading_of loop offset).beside loop ≡ made t
+    pub places : count_beside read ≤ length (reading_of loop offset).beside.components
     -- the piece alone is read as the same, with its view counted from its payload's first byte
     pub own : Descriptor
-    pub alone : (fullIn t).read ≡ DescriptorRead.Is own
-    pub moves : read ≡ movedDescriptor (offset + 6) own
-    pub view : SameView (drop 6 t) (viewIn own) loop (viewIn (movedDescriptor (offset + 6) own))
+    pub alone : (full_in t).read ≡ DescriptorRead.Is own
+    pub moves : read ≡ moved_descriptor (offset + 6) own
+    pub view : SameView (drop 6 t) (view_in own) loop (view_in (moved_descriptor (offset + 6) own))
 
   pub back_at : AllBytes t → Back
   back_at all =
-      let w = full-descriptor-read-write t all a.canon in
+      let w = full_descriptor_read_write t all a.canon in
       let d : Descriptor = w.read in
       let base : ℕ = offset + 6 in
-      let there : Descriptor = movedDescriptor base d in
-      let id : List ℕ = (fullIn t).identifier in
-      let b : Beside = (fullIn t).beside in
-      let told = subst (λ (p : List ℕ). ((viewIn d).at + (viewIn d).len ≤ length p) × NoneTold d) (sym a.payload) (made_told (drop 6 t) t id b d w.places w.writes) in
-      let v : SameView (drop 6 t) (viewIn d) loop (viewIn there) =
-      subst (λ (p : List ℕ). SameView p (viewIn d) loop (viewIn there)) a.payload (moved_view loop base (length t - 6) a.there d told) in
-      let m : descriptorMade there id b loop ≡ made t =
-      alike-made (drop 6 t) loop id b b refl d there w.places (sym (moved-values base d)) v (ap (λ (n : ℕ). take n b.components) (sym (moved-count base d))) t w.writes in
+      let there : Descriptor = moved_descriptor base d in
+      let id : List ℕ = (full_in t).identifier in
+      let b : Beside = (full_in t).beside in
+      let told = subst (λ (p : List ℕ). ((view_in d).at + (view_in d).len ≤ length p) × NoneTold d) (sym a.payload) (made_told (drop 6 t) t id b d w.places w.writes) in
+      let v : SameView (drop 6 t) (view_in d) loop (view_in there) =
+      subst (λ (p : List ℕ). SameView p (view_in d) loop (view_in there)) a.payload (moved_view loop base (length t - 6) a.there d told) in
+      let m : descriptor_made there id b loop ≡ made t =
+      alike_made (drop 6 t) loop id b b refl d there w.places (sym (moved_values base d)) v (ap (λ (n : ℕ). take n b.components) (sym (moved_count base d))) t w.writes in
       record {
         read = there;
-        is = item-is ∙ ap (item_at base) (ap (λ (x : FullDescriptor). x.read) w.full);
-        writes = ap₂ (λ (i : List ℕ) (c : Beside). descriptorMade there i c loop) identifier-is beside-is ∙ m;
-        places = subst (λ (c : Beside). countBeside there ≤ length c.components) (sym beside-is) (omega (arith, moved-count base d, w.places));
+        is = item_is ∙ ap (item_at base) (ap (λ (x : FullDescriptor). x.read) w.full);
+        writes = ap₂ (λ (i : List ℕ) (c : Beside). descriptor_made there i c loop) identifier_is beside_is ∙ m;
+        places = subst (λ (c : Beside). count_beside there ≤ length c.components) (sym beside_is) (omega (arith, moved_count base d, w.places));
         own = d;
         alone = ap (λ (x : FullDescriptor). x.read) w.full;
         moves = refl;
@@ -105,26 +105,26 @@ module _ (loop : List ℕ) (offset : ℕ) (t : List ℕ) (a : At loop offset t) 
       }
 
   -- the item is what the piece was written of
-  pub given-at : (g : Given) → ReadAs t g.descriptor g.identifier g.beside g.lent → ItemBack loop (listed loop offset) g
+  pub given_at : (g : Given) → ReadAs t g.descriptor g.identifier g.beside g.lent → ItemBack loop (listed loop offset) g
   unfolding full_of
-  given-at g r =
+  given_at g r =
       let d : Descriptor = r.again in
       let base : ℕ = offset + 6 in
-      let there : Descriptor = movedDescriptor base d in
-      let views : All (λ (v : View). v.at + v.len ≤ length (drop 6 t)) (descriptorViews d) =
-      subst (λ (x : DescriptorRead). All (λ (v : View). v.at + v.len ≤ length (drop 6 t)) (readViews x)) r.reading (read-inside (get_or t 0 0) (take 4 (drop 2 t)) (drop 6 t)) in
-      let inside = subst (λ (p : List ℕ). All (λ (v : View). v.at + v.len ≤ length p) (descriptorViews d)) (sym a.payload) views in
-      let moves : bytesOfViews loop (descriptorViews there) ≡ bytesOfViews (drop 6 t) (descriptorViews d) =
-      moved-bytes loop base (length t - 6) a.there d inside ∙ ap (λ (p : List ℕ). bytesOfViews p (descriptorViews d)) a.payload in
+      let there : Descriptor = moved_descriptor base d in
+      let views : All (λ (v : View). v.at + v.len ≤ length (drop 6 t)) (descriptor_views d) =
+      subst (λ (x : DescriptorRead). All (λ (v : View). v.at + v.len ≤ length (drop 6 t)) (read_views x)) r.reading (read_inside (get_or t 0 0) (take 4 (drop 2 t)) (drop 6 t)) in
+      let inside = subst (λ (p : List ℕ). All (λ (v : View). v.at + v.len ≤ length p) (descriptor_views d)) (sym a.payload) views in
+      let moves : bytes_of_views loop (descriptor_views there) ≡ bytes_of_views (drop 6 t) (descriptor_views d) =
+      moved_bytes loop base (length t - 6) a.there d inside ∙ ap (λ (p : List ℕ). bytes_of_views p (descriptor_views d)) a.payload in
       record {
         again = there;
-        is = item-is ∙ ap (item_at base) r.reading;
+        is = item_is ∙ ap (item_at base) r.reading;
         same = record {
-          values = moved-values base d ∙ r.same.values;
+          values = moved_values base d ∙ r.same.values;
           bytes = moves ∙ r.same.bytes;
-          identifiers = identifier-is ∙ r.same.identifiers;
-          components = ap₂ (λ (n : ℕ) (c : Beside). take n c.components) (moved-count base d) beside-is ∙ r.same.components;
-          eidrs = ap (λ (c : Beside). c.eidr) beside-is ∙ r.same.eidrs;
+          identifiers = identifier_is ∙ r.same.identifiers;
+          components = ap₂ (λ (n : ℕ) (c : Beside). take n c.components) (moved_count base d) beside_is ∙ r.same.components;
+          eidrs = ap (λ (c : Beside). c.eidr) beside_is ∙ r.same.eidrs;
         };
       }
 
@@ -138,38 +138,38 @@ module _ (loop : List ℕ) (fits : length loop ≤ 4076) where
       record { descriptor = b.read; is = b.is; writes = b.writes ∙ ap made (sym (run_is loop fits o t a)) }
 
   -- what holds of each item where a piece stands holds of all
-  pub every-item : {P : Listed → Type 0} {offset : ℕ} {ts : List (List ℕ)} {xs : List Listed} → Items loop fits offset ts xs → All AllBytes ts
+  pub every_item : {P : Listed → Type 0} {offset : ℕ} {ts : List (List ℕ)} {xs : List Listed} → Items loop fits offset ts xs → All AllBytes ts
       → ((o : ℕ) (t : List ℕ) → At loop o t → AllBytes t → P (listed loop o)) → All P xs
-  every-item end none f = none
-  every-item (item {offset = o} {t = t} a i) (more h hs) f = more (f o t a h) (every-item i hs f)
+  every_item end none f = none
+  every_item (item {offset = o} {t = t} a i) (more h hs) f = more (f o t a h) (every_item i hs f)
 
 -- ---- loops with the same items
 
-one-read : (x y : Descriptor) (i : Item) → i ≡ Is x → i ≡ Is y → x ≡ y
-one-read x y i e f =
+one_read : (x y : Descriptor) (i : Item) → i ≡ Is x → i ≡ Is y → x ≡ y
+one_read x y i e f =
     let z : Is x ≡ Is y = sym e ∙ f in
     cc
 
 -- the piece is what is written of the descriptor that the item is
 named : (loop : List ℕ) (offset : ℕ) (t : List ℕ) → At loop offset t → AllBytes t → (d : Descriptor) → (step_of loop offset).item ≡ Is d
-    → (descriptorMade d (step_of loop offset).identifier (reading_of loop offset).beside loop ≡ made t) × (countBeside d ≤ length (reading_of loop offset).beside.components)
+    → (descriptor_made d (step_of loop offset).identifier (reading_of loop offset).beside loop ≡ made t) × (count_beside d ≤ length (reading_of loop offset).beside.components)
 named loop o t a h d e =
     let b = back_at loop o t a h in
-    let z : b.read ≡ d = one-read b.read d (step_of loop o).item b.is e in (
-      subst (λ (k : Descriptor). descriptorMade k (step_of loop o).identifier (reading_of loop o).beside loop ≡ made t) z b.writes,
-      subst (λ (k : Descriptor). countBeside k ≤ length (reading_of loop o).beside.components) z b.places,
+    let z : b.read ≡ d = one_read b.read d (step_of loop o).item b.is e in (
+      subst (λ (k : Descriptor). descriptor_made k (step_of loop o).identifier (reading_of loop o).beside loop ≡ made t) z b.writes,
+      subst (λ (k : Descriptor). count_beside k ≤ length (reading_of loop o).beside.components) z b.places,
     )
 
 module _ (loop other : List ℕ) (fits : length loop ≤ 4076) (fits₂ : length other ≤ 4076) where
-  pub cut-one : {o₁ o₂ : ℕ} {ts us : List (List ℕ)} {xs ys : List Listed} → Items loop fits o₁ ts xs → Items other fits₂ o₂ us ys → All AllBytes ts → All AllBytes us → Pairs (SameItem loop other) xs ys → ts ≡ us
-  cut-one end end none none over = refl
-  cut-one (item {offset = o} {t = t} a i) (item {offset = q} {t = u} b j) (more h hs) (more k ks) (pair s ss) =
+  pub cut_one : {o₁ o₂ : ℕ} {ts us : List (List ℕ)} {xs ys : List Listed} → Items loop fits o₁ ts xs → Items other fits₂ o₂ us ys → All AllBytes ts → All AllBytes us → Pairs (SameItem loop other) xs ys → ts ≡ us
+  cut_one end end none none over = refl
+  cut_one (item {offset = o} {t = t} a i) (item {offset = q} {t = u} b j) (more h hs) (more k ks) (pair s ss) =
       let r = s.back in
       let m = named loop o t a h r.again r.is in
       let n = named other q u b k s.that s.is in
       ap₂ (λ (p : List ℕ) (ps : List (List ℕ)). p ∷ ps)
-      (same-made loop other t u r.again s.that (step_of loop o).identifier (step_of other q).identifier (reading_of loop o).beside (reading_of other q).beside m.1 n.1 r.same m.0 n.0)
-      (cut-one i j hs ks ss)
+      (same_made loop other t u r.again s.that (step_of loop o).identifier (step_of other q).identifier (reading_of loop o).beside (reading_of other q).beside m.1 n.1 r.same m.0 n.0)
+      (cut_one i j hs ks ss)
 
 -- ---- descriptors that are written, joined and read
 
@@ -179,18 +179,18 @@ Reads ts gs = Pairs (λ (t : List ℕ) (g : Given). ReadAs t g.descriptor g.iden
 
 items_back : (loop : List ℕ) (fits : length loop ≤ 4076) {offset : ℕ} {ts : List (List ℕ)} {xs : List Listed} {gs : List Given} → Items loop fits offset ts xs → Reads ts gs → Pairs (ItemBack loop) xs gs
 items_back loop fits end over = over
-items_back loop fits (item {offset = o} {t = t} a i) (pair {y = g} r rs) = pair (given-at loop o t a g r) (items_back loop fits i rs)
+items_back loop fits (item {offset = o} {t = t} a i) (pair {y = g} r rs) = pair (given_at loop o t a g r) (items_back loop fits i rs)
 
 -- descriptors that are handed in, and the bytes that are written of each
-given-cut : {gs : List Given} {bs : List (List ℕ)} → All (λ (g : Given). Handed g.descriptor g.identifier g.beside g.lent) gs → Pairs (λ (g : Given) (b : List ℕ). givenMade g ≡ made b) gs bs → All Canonical bs × Reads bs gs
-given-cut none over = (none, over)
-given-cut (more {x = g} h hs) (pair {y = t} e es) =
-    let i = given-cut hs es in
-    let r = descriptor-write-read g.descriptor g.identifier g.beside g.lent t h e in
+given_cut : {gs : List Given} {bs : List (List ℕ)} → All (λ (g : Given). Handed g.descriptor g.identifier g.beside g.lent) gs → Pairs (λ (g : Given) (b : List ℕ). given_made g ≡ made b) gs bs → All Canonical bs × Reads bs gs
+given_cut none over = (none, over)
+given_cut (more {x = g} h hs) (pair {y = t} e es) =
+    let i = given_cut hs es in
+    let r = descriptor_write_read g.descriptor g.identifier g.beside g.lent t h e in
     (more r.1 i.0, pair r.0 i.1)
 
-pub given-write-read : {gs : List Given} {bs : List (List ℕ)} → All (λ (g : Given). Handed g.descriptor g.identifier g.beside g.lent) gs → length (joined bs) ≤ 4076 → Pairs (λ (g : Given) (b : List ℕ). givenMade g ≡ made b) gs bs
-    → (canonicalLoop (joined bs) ≡ true) × Pairs (ItemBack (joined bs)) (items_of (joined bs)) gs
-given-write-read {gs} {bs} hs fits es =
-    let c = given-cut hs es in
-    (cut-canonical c.0, items_back (joined bs) fits (items-cut (joined bs) fits c.0 refl) c.1)
+pub given_write_read : {gs : List Given} {bs : List (List ℕ)} → All (λ (g : Given). Handed g.descriptor g.identifier g.beside g.lent) gs → length (joined bs) ≤ 4076 → Pairs (λ (g : Given) (b : List ℕ). given_made g ≡ made b) gs bs
+    → (canonical_loop (joined bs) ≡ true) × Pairs (ItemBack (joined bs)) (items_of (joined bs)) gs
+given_write_read {gs} {bs} hs fits es =
+    let c = given_cut hs es in
+    (cut_canonical c.0, items_back (joined bs) fits (items_cut (joined bs) fits c.0 refl) c.1)

@@ -3,15 +3,15 @@ use Rattle.std.specs.Prelude.{ℕ, List, ◌≡◌}
 use Rattle.table.specs.Writing.{Made, made}
 use Rattle.descriptor.specs.declared.Descriptor.{Descriptor}
 use Rattle.canonical_form.specs.Same.{Given}
-use Rattle.descriptor_measure.specs.Writing.{descriptorMade}
+use Rattle.descriptor_measure.specs.Writing.{descriptor_made}
 use Rattle.descriptor_loop.specs.Cover.{run_of}
 use Rattle.descriptor_loop.specs.Items.{reading_of, Listed}
 use Rattle.descriptor_loop.specs.declared.Item.TheVariants.{Is}
 
 -- ---- a descriptor that is handed in, with the bytes that its views refer to
 
-abbrev pub givenMade : Given → Made
-givenMade g = descriptorMade g.descriptor g.identifier g.beside g.lent
+abbrev pub given_made : Given → Made
+given_made g = descriptor_made g.descriptor g.identifier g.beside g.lent
 
 -- ---- "Writing a reading means each item's descriptor, joined in order as the loop, then the section."
 
@@ -19,4 +19,4 @@ givenMade g = descriptorMade g.descriptor g.identifier g.beside g.lent
 pub record WrittenAgain (loop : List ℕ) (x : Listed) : Type 0 where
   pub descriptor : Descriptor
   pub is : x.step.item ≡ Is descriptor
-  pub writes : descriptorMade descriptor x.step.identifier (reading_of loop x.offset).beside loop ≡ made (run_of loop x)
+  pub writes : descriptor_made descriptor x.step.identifier (reading_of loop x.offset).beside loop ≡ made (run_of loop x)

@@ -17,42 +17,42 @@ use Rattle.names.specs.declared.algorithm.EncryptionAlgorithm.TheVariants.{
   Reserved,
   Private,
 }
-use Rattle.names.specs.Numbering.{classIn, reserved, private}
-use Rattle.names.specs.Algorithm.{algorithmNumber, otherAlgorithm, algorithms, algorithmOf, writableAlgorithm}
+use Rattle.names.specs.Numbering.{class_in, reserved, private}
+use Rattle.names.specs.Algorithm.{algorithm_number, other_algorithm, algorithms, algorithm_of, writable_algorithm}
 use Rattle.names.specs.contracts.algorithm.EncryptionAlgorithm.{the_type}
 use Rattle.names.proofs.Laws.{Name, Carried, Sound, Inverse, inverse}
 
 -- the two ranges
-pub low : (n : ℕ) → n < 32 → Reserved n ≡ otherAlgorithm n
+pub low : (n : ℕ) → n < 32 → Reserved n ≡ other_algorithm n
 low n h = rw (lt-ltb n 32 h)
 
-pub high : (n : ℕ) → 32 ≤ n → Private n ≡ otherAlgorithm n
+pub high : (n : ℕ) → 32 ≤ n → Private n ≡ other_algorithm n
 high n h = rw (le-ltb n 32 h)
 
 -- a number without a name is carried as it is, whichever range it lies in
-carried : (b : Bool) (n : ℕ) → algorithmNumber (pick b (Reserved n) (Private n)) ≡ n
+carried : (b : Bool) (n : ℕ) → algorithm_number (pick b (Reserved n) (Private n)) ≡ n
 carried true n = refl
 carried false n = refl
 
-own-reserved : (b : Bool) (n : ℕ) → classIn algorithms (pick b (Reserved n) (Private n)) ≡ reserved → pick b (Reserved n) (Private n) ≡ Reserved n
-own-reserved true n e = refl
-own-reserved false n e = absurd (omega arith)
+own_reserved : (b : Bool) (n : ℕ) → class_in algorithms (pick b (Reserved n) (Private n)) ≡ reserved → pick b (Reserved n) (Private n) ≡ Reserved n
+own_reserved true n e = refl
+own_reserved false n e = absurd (omega arith)
 
-own-private : (b : Bool) (n : ℕ) → classIn algorithms (pick b (Reserved n) (Private n)) ≡ private → pick b (Reserved n) (Private n) ≡ Private n
-own-private true n e = absurd (omega arith)
-own-private false n e = refl
+own_private : (b : Bool) (n : ℕ) → class_in algorithms (pick b (Reserved n) (Private n)) ≡ private → pick b (Reserved n) (Private n) ≡ Private n
+own_private true n e = absurd (omega arith)
+own_private false n e = refl
 
 split : (x : EncryptionAlgorithm) → Name algorithms x ⊎ (Carried algorithms x × (length algorithms.names ≤ tag_of the_type x))
 split None = inl (refl, refl)
 split DesEcb = inl (refl, refl)
 split DesCbc = inl (refl, refl)
 split TripleDesEde3Ecb = inl (refl, refl)
-split (Reserved n) = inr ((λ e. omega arith, own-reserved (ltb n 32) n), lit≤ tt)
-split (Private n) = inr ((λ e. omega arith, own-private (ltb n 32) n), lit≤ tt)
+split (Reserved n) = inr ((λ e. omega arith, own_reserved (ltb n 32) n), lit≤ tt)
+split (Private n) = inr ((λ e. omega arith, own_private (ltb n 32) n), lit≤ tt)
 
 pub sound : Sound algorithms (tag_of the_type)
 sound = record { carries = λ n. carried (ltb n 32) n; listed = refl; split = split }
 
-pub algorithm-laws : Inverse algorithmNumber algorithmOf writableAlgorithm
-unfolding algorithmOf writableAlgorithm
-algorithm-laws = inverse algorithms (tag_of the_type) sound
+pub algorithm_laws : Inverse algorithm_number algorithm_of writable_algorithm
+unfolding algorithm_of writable_algorithm
+algorithm_laws = inverse algorithms (tag_of the_type) sound

@@ -16,7 +16,7 @@ use Rattle.names.specs.declared.command.SpliceCommandType.TheVariants.{
   PrivateCommand,
   Reserved,
 }
-use Rattle.names.specs.Command.{commandNumber, commands, commandTypeOf, writableCommand}
+use Rattle.names.specs.Command.{command_number, commands, command_type_of, writable_command}
 use Rattle.names.specs.contracts.command.SpliceCommandType.{the_type}
 use Rattle.names.proofs.Laws.{Name, Carried, Sound, Inverse, inverse}
 
@@ -32,6 +32,6 @@ split (Reserved n) = inr ((λ e. omega arith, λ e. refl), lit≤ tt)
 pub sound : Sound commands (tag_of the_type)
 sound = record { carries = λ n. refl; listed = refl; split = split }
 
-pub command-laws : Inverse commandNumber commandTypeOf writableCommand
-unfolding commandTypeOf writableCommand
-command-laws = inverse commands (tag_of the_type) sound
+pub command_laws : Inverse command_number command_type_of writable_command
+unfolding command_type_of writable_command
+command_laws = inverse commands (tag_of the_type) sound

@@ -19,19 +19,19 @@ use Rattle.names.specs.Flags.{
   Answer,
   gives,
   refuses,
-  or-12,
-  networkFlag,
+  or_12,
+  network_flag,
   networks,
-  networkOf,
-  networkAnswer,
-  returnFlag,
-  returnModes,
-  returnOf,
-  returnAnswer,
-  restrictionsBits,
+  network_of,
+  network_answer,
+  return_flag,
+  return_modes,
+  return_of,
+  return_answer,
+  restrictions_bits,
   restrictions,
-  restrictionsOf,
-  restrictionsAnswer,
+  restrictions_of,
+  restrictions_answer,
 }
 use Rattle.names.proofs.Laws.{unnamed}
 
@@ -42,100 +42,100 @@ pub record Flags {A : Type 0} (number : A → ℕ) (of : ℕ → Answer A) (coun
   pub given : (n : ℕ) → n < count → (x : A) × (of n ≡ gives x)
   pub refused : (n : ℕ) → count ≤ n → of n ≡ refuses 12 []
 
-found : {A : Type 0} (number : A → ℕ) (n : ℕ) (x : A) (xs : List A) → or-12 (name_of number xs n) ≡ gives x → number x ≡ n
+found : {A : Type 0} (number : A → ℕ) (n : ℕ) (x : A) (xs : List A) → or_12 (name_of number xs n) ≡ gives x → number x ≡ n
 found number n x [] e = let z : ◌≡◌ {A = ℕ} 0 1 = cc in absurd (omega arith)
 found number n x (y ∷ ys) e = go (eqb n (number y)) refl (found number n x ys) e
   where
-    go : (b : Bool) → eqb n (number y) ≡ b → (or-12 (name_of number ys n) ≡ gives x → number x ≡ n)
-        → or-12 (pick b (some y) (name_of number ys n)) ≡ gives x → number x ≡ n
+    go : (b : Bool) → eqb n (number y) ≡ b → (or_12 (name_of number ys n) ≡ gives x → number x ≡ n)
+        → or_12 (pick b (some y) (name_of number ys n)) ≡ gives x → number x ≡ n
     go true t f r = let s : y ≡ x = cc in sym (eqb-true n (number y) t ∙ ap number s)
     go false t f r = f r
 
-network-back : (x : NetworkIndicator) → networkOf (networkFlag x) ≡ gives x
-unfolding networkOf
-network-back NetworkIndicator.In = refl
-network-back NetworkIndicator.Out = refl
+network_back : (x : NetworkIndicator) → network_of (network_flag x) ≡ gives x
+unfolding network_of
+network_back NetworkIndicator.In = refl
+network_back NetworkIndicator.Out = refl
 
-network-given : (n : ℕ) → n < 2 → (x : NetworkIndicator) × (networkOf n ≡ gives x)
-unfolding networkOf
-network-given zero h = (NetworkIndicator.In, refl)
-network-given (suc zero) h = (NetworkIndicator.Out, refl)
-network-given (suc (suc n)) h = absurd (omega arith)
+network_given : (n : ℕ) → n < 2 → (x : NetworkIndicator) × (network_of n ≡ gives x)
+unfolding network_of
+network_given zero h = (NetworkIndicator.In, refl)
+network_given (suc zero) h = (NetworkIndicator.Out, refl)
+network_given (suc (suc n)) h = absurd (omega arith)
 
-pub network-laws : Flags networkFlag networkOf 2
-unfolding networkOf
-network-laws =
+pub network_laws : Flags network_flag network_of 2
+unfolding network_of
+network_laws =
     record {
-      back = network-back;
-      there = λ n x. found networkFlag n x networks;
-      given = network-given;
-      refused = λ n h. ap or-12 (sym (unnamed networkFlag n networks ((tt, λ e. omega arith), λ e. omega arith)));
+      back = network_back;
+      there = λ n x. found network_flag n x networks;
+      given = network_given;
+      refused = λ n h. ap or_12 (sym (unnamed network_flag n networks ((tt, λ e. omega arith), λ e. omega arith)));
     }
 
-return_back : (x : ReturnMode) → returnOf (returnFlag x) ≡ gives x
-unfolding returnOf
+return_back : (x : ReturnMode) → return_of (return_flag x) ≡ gives x
+unfolding return_of
 return_back ReturnMode.Manual = refl
 return_back ReturnMode.Automatic = refl
 
-return-given : (n : ℕ) → n < 2 → (x : ReturnMode) × (returnOf n ≡ gives x)
-unfolding returnOf
-return-given zero h = (ReturnMode.Manual, refl)
-return-given (suc zero) h = (ReturnMode.Automatic, refl)
-return-given (suc (suc n)) h = absurd (omega arith)
+return_given : (n : ℕ) → n < 2 → (x : ReturnMode) × (return_of n ≡ gives x)
+unfolding return_of
+return_given zero h = (ReturnMode.Manual, refl)
+return_given (suc zero) h = (ReturnMode.Automatic, refl)
+return_given (suc (suc n)) h = absurd (omega arith)
 
-pub return-laws : Flags returnFlag returnOf 2
-unfolding returnOf
-return-laws =
+pub return_laws : Flags return_flag return_of 2
+unfolding return_of
+return_laws =
     record {
       back = return_back;
-      there = λ n x. found returnFlag n x returnModes;
-      given = return-given;
-      refused = λ n h. ap or-12 (sym (unnamed returnFlag n returnModes ((tt, λ e. omega arith), λ e. omega arith)));
+      there = λ n x. found return_flag n x return_modes;
+      given = return_given;
+      refused = λ n h. ap or_12 (sym (unnamed return_flag n return_modes ((tt, λ e. omega arith), λ e. omega arith)));
     }
 
-restrictions-back : (x : DeviceRestrictions) → restrictionsOf (restrictionsBits x) ≡ gives x
-unfolding restrictionsOf
-restrictions-back DeviceRestrictions.RestrictGroup0 = refl
-restrictions-back DeviceRestrictions.RestrictGroup1 = refl
-restrictions-back DeviceRestrictions.RestrictGroup2 = refl
-restrictions-back DeviceRestrictions.None = refl
+restrictions_back : (x : DeviceRestrictions) → restrictions_of (restrictions_bits x) ≡ gives x
+unfolding restrictions_of
+restrictions_back DeviceRestrictions.RestrictGroup0 = refl
+restrictions_back DeviceRestrictions.RestrictGroup1 = refl
+restrictions_back DeviceRestrictions.RestrictGroup2 = refl
+restrictions_back DeviceRestrictions.None = refl
 
-restrictions-given : (n : ℕ) → n < 4 → (x : DeviceRestrictions) × (restrictionsOf n ≡ gives x)
-unfolding restrictionsOf
-restrictions-given zero h = (DeviceRestrictions.RestrictGroup0, refl)
-restrictions-given (suc zero) h = (DeviceRestrictions.RestrictGroup1, refl)
-restrictions-given (suc (suc zero)) h = (DeviceRestrictions.RestrictGroup2, refl)
-restrictions-given (suc (suc (suc zero))) h = (DeviceRestrictions.None, refl)
-restrictions-given (suc (suc (suc (suc n)))) h = absurd (omega arith)
+restrictions_given : (n : ℕ) → n < 4 → (x : DeviceRestrictions) × (restrictions_of n ≡ gives x)
+unfolding restrictions_of
+restrictions_given zero h = (DeviceRestrictions.RestrictGroup0, refl)
+restrictions_given (suc zero) h = (DeviceRestrictions.RestrictGroup1, refl)
+restrictions_given (suc (suc zero)) h = (DeviceRestrictions.RestrictGroup2, refl)
+restrictions_given (suc (suc (suc zero))) h = (DeviceRestrictions.None, refl)
+restrictions_given (suc (suc (suc (suc n)))) h = absurd (omega arith)
 
-pub restrictions-laws : Flags restrictionsBits restrictionsOf 4
-unfolding restrictionsOf
-restrictions-laws =
+pub restrictions_laws : Flags restrictions_bits restrictions_of 4
+unfolding restrictions_of
+restrictions_laws =
     record {
-      back = restrictions-back;
-      there = λ n x. found restrictionsBits n x restrictions;
-      given = restrictions-given;
+      back = restrictions_back;
+      there = λ n x. found restrictions_bits n x restrictions;
+      given = restrictions_given;
       refused =
-          λ n h. ap or-12
+          λ n h. ap or_12
           (sym
-          (unnamed restrictionsBits n restrictions ((((tt, λ e. omega arith), λ e. omega arith), λ e. omega arith), λ e. omega arith)));
+          (unnamed restrictions_bits n restrictions ((((tt, λ e. omega arith), λ e. omega arith), λ e. omega arith), λ e. omega arith)));
     }
 
 -- two answers that say the same are the same
-pub same-network : (r s : NetworkRead) → networkAnswer r ≡ networkAnswer s → r ≡ s
-same-network (NetworkRead.Is x) (NetworkRead.Is y) e = cc
-same-network (NetworkRead.Is x) NetworkRead.Refused e = cc
-same-network NetworkRead.Refused (NetworkRead.Is y) e = cc
-same-network NetworkRead.Refused NetworkRead.Refused e = refl
+pub same_network : (r s : NetworkRead) → network_answer r ≡ network_answer s → r ≡ s
+same_network (NetworkRead.Is x) (NetworkRead.Is y) e = cc
+same_network (NetworkRead.Is x) NetworkRead.Refused e = cc
+same_network NetworkRead.Refused (NetworkRead.Is y) e = cc
+same_network NetworkRead.Refused NetworkRead.Refused e = refl
 
-pub same-return : (r s : ReturnRead) → returnAnswer r ≡ returnAnswer s → r ≡ s
-same-return (ReturnRead.Is x) (ReturnRead.Is y) e = cc
-same-return (ReturnRead.Is x) ReturnRead.Refused e = cc
-same-return ReturnRead.Refused (ReturnRead.Is y) e = cc
-same-return ReturnRead.Refused ReturnRead.Refused e = refl
+pub same_return : (r s : ReturnRead) → return_answer r ≡ return_answer s → r ≡ s
+same_return (ReturnRead.Is x) (ReturnRead.Is y) e = cc
+same_return (ReturnRead.Is x) ReturnRead.Refused e = cc
+same_return ReturnRead.Refused (ReturnRead.Is y) e = cc
+same_return ReturnRead.Refused ReturnRead.Refused e = refl
 
-pub same-restrictions : (r s : RestrictionsRead) → restrictionsAnswer r ≡ restrictionsAnswer s → r ≡ s
-same-restrictions (RestrictionsRead.Is x) (RestrictionsRead.Is y) e = cc
-same-restrictions (RestrictionsRead.Is x) RestrictionsRead.Refused e = cc
-same-restrictions RestrictionsRead.Refused (RestrictionsRead.Is y) e = cc
-same-restrictions RestrictionsRead.Refused RestrictionsRead.Refused e = refl
+pub same_restrictions : (r s : RestrictionsRead) → restrictions_answer r ≡ restrictions_answer s → r ≡ s
+same_restrictions (RestrictionsRead.Is x) (RestrictionsRead.Is y) e = cc
+same_restrictions (RestrictionsRead.Is x) RestrictionsRead.Refused e = cc
+same_restrictions RestrictionsRead.Refused (RestrictionsRead.Is y) e = cc
+same_restrictions RestrictionsRead.Refused RestrictionsRead.Refused e = refl

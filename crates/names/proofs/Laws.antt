@@ -10,7 +10,7 @@ use lib.Dec.{eqb}
 use lib.ListN.{length}
 use borrow.Author.Tests.{eqb-true, eq-eqb, ne_eqb}
 use types.Run.{OneOf}
-use Rattle.names.specs.Numbering.{Numbering, number_in, classIn, named, name_of, or, value_of, writable}
+use Rattle.names.specs.Numbering.{Numbering, number_in, class_in, named, name_of, or, value_of, writable}
 
 and_left : (a b : Bool) → (a && b) ≡ true → a ≡ true
 and_left true b e = refl
@@ -52,27 +52,27 @@ under i (suc (suc k)) n o = ⊎_elim (λ e. omega arith) (λ r. omega (arith, un
 -- ---- what an enum owes
 -- a name: its own number stands for it
 abbrev pub Name : {A : Type 0} → Numbering A → A → Type 0
-Name T x = (value_of T (number_in T x) ≡ x) × (classIn T x ≡ named)
+Name T x = (value_of T (number_in T x) ≡ x) × (class_in T x ≡ named)
 
 -- a value that carries its number: it is the one of its class
 abbrev pub Carried : {A : Type 0} → Numbering A → A → Type 0
-Carried T x = (classIn T x ≡ named → ⊥) × (classIn T (T.others (number_in T x)) ≡ classIn T x → T.others (number_in T x) ≡ x)
+Carried T x = (class_in T x ≡ named → ⊥) × (class_in T (T.others (number_in T x)) ≡ class_in T x → T.others (number_in T x) ≡ x)
 
-abbrev pub allNamed : {A : Type 0} → (A → ℕ) → List A → Bool
-allNamed class [] = true
-allNamed class (x ∷ xs) = eqb (class x) named && allNamed class xs
+abbrev pub all_named : {A : Type 0} → (A → ℕ) → List A → Bool
+all_named class [] = true
+all_named class (x ∷ xs) = eqb (class x) named && all_named class xs
 
 -- `tag` counts the variants in the order of the declaration, the names first
 pub record Sound {A : Type 0} (T : Numbering A) (tag : A → ℕ) : Type 0 where
   pub carries : (n : ℕ) → number_in T (T.others n) ≡ n
-  pub listed : allNamed (classIn T) T.names ≡ true
+  pub listed : all_named (class_in T) T.names ≡ true
   pub split : (x : A) → Name T x ⊎ (Carried T x × (length T.names ≤ tag x))
 
 -- ---- what every enum then has
 pub record Inverse {A : Type 0} (number : A → ℕ) (value : ℕ → A) (writable : A → Bool) : Type 0 where
   -- the number of what a number stands for is that number, and what it stands for is writable
   pub there : (n : ℕ) → number (value n) ≡ n
-  pub is-writable : (n : ℕ) → writable (value n) ≡ true
+  pub is_writable : (n : ℕ) → writable (value n) ≡ true
   -- a value is writable exactly when it is what its own number stands for
   pub back : (x : A) → writable x ≡ true → value (number x) ≡ x
   pub only : (x : A) → value (number x) ≡ x → writable x ≡ true
@@ -90,50 +90,50 @@ module _ {A : Type 0} (number : A → ℕ) (n : ℕ) (y : A) where
       go true t r = sym (eqb-true n (number x) t)
       go false t r = r
 
-  left_over : (class : A → ℕ) (xs : List A) → allNamed class xs ≡ true → (class (or (name_of number xs n) y) ≡ named → ⊥)
+  left_over : (class : A → ℕ) (xs : List A) → all_named class xs ≡ true → (class (or (name_of number xs n) y) ≡ named → ⊥)
       → or (name_of number xs n) y ≡ y
   left_over class [] t h = refl
   left_over class (x ∷ xs) t h =
-      go (eqb n (number x)) h (left_over class xs (and_right (eqb (class x) named) (allNamed class xs) t))
+      go (eqb n (number x)) h (left_over class xs (and_right (eqb (class x) named) (all_named class xs) t))
     where
       go : (b : Bool) → (class (or (pick b (some x) (name_of number xs n)) y) ≡ named → ⊥)
           → ((class (or (name_of number xs n) y) ≡ named → ⊥) → or (name_of number xs n) y ≡ y)
           → or (pick b (some x) (name_of number xs n)) y ≡ y
-      go true k r = absurd (k (eqb-true (class x) named (and_left (eqb (class x) named) (allNamed class xs) t)))
+      go true k r = absurd (k (eqb-true (class x) named (and_left (eqb (class x) named) (all_named class xs) t)))
       go false k r = r k
 
 -- a value is writable where its number stands for a value of its class
-pub writable-by : {A : Type 0} (T : Numbering A) (x own : A) (k : ℕ) → classIn T own ≡ k → own ≡ value_of T (number_in T x)
-    → eqb k (classIn T x) ≡ writable T x
-writable-by T x own k c e = ap (λ j. eqb j (classIn T x)) (sym c ∙ ap (classIn T) e)
+pub writable_by : {A : Type 0} (T : Numbering A) (x own : A) (k : ℕ) → class_in T own ≡ k → own ≡ value_of T (number_in T x)
+    → eqb k (class_in T x) ≡ writable T x
+writable_by T x own k c e = ap (λ j. eqb j (class_in T x)) (sym c ∙ ap (class_in T) e)
 
 module _ {A : Type 0} (T : Numbering A) (tag : A → ℕ) (s : Sound T tag) where
-  carried-back : (x : A) → Carried T x → writable T x ≡ true → value_of T (number_in T x) ≡ x
-  carried-back x c f =
+  carried_back : (x : A) → Carried T x → writable T x ≡ true → value_of T (number_in T x) ≡ x
+  carried_back x c f =
       let n = number_in T x in
-      let k : classIn T (value_of T n) ≡ classIn T x = eqb-true (classIn T (value_of T n)) (classIn T x) f in
+      let k : class_in T (value_of T n) ≡ class_in T x = eqb-true (class_in T (value_of T n)) (class_in T x) f in
       let l : value_of T n ≡ T.others n =
-      left_over (number_in T) n (T.others n) (classIn T) T.names s.listed (λ e. c.0 (sym k ∙ e)) in
-      l ∙ c.1 (sym (ap (classIn T) l) ∙ k)
+      left_over (number_in T) n (T.others n) (class_in T) T.names s.listed (λ e. c.0 (sym k ∙ e)) in
+      l ∙ c.1 (sym (ap (class_in T) l) ∙ k)
 
-  gives-writable : (x : A) → value_of T (number_in T x) ≡ x → writable T x ≡ true
-  gives-writable x e = sym (writable-by T x x (classIn T x) refl (sym e)) ∙ eq-eqb (classIn T x) (classIn T x) refl
+  gives_writable : (x : A) → value_of T (number_in T x) ≡ x → writable T x ≡ true
+  gives_writable x e = sym (writable_by T x x (class_in T x) refl (sym e)) ∙ eq-eqb (class_in T x) (class_in T x) refl
 
-  number-there : (n : ℕ) → number_in T (value_of T n) ≡ n
-  number-there n = found (number_in T) n (T.others n) (s.carries n) T.names
+  number_there : (n : ℕ) → number_in T (value_of T n) ≡ n
+  number_there n = found (number_in T) n (T.others n) (s.carries n) T.names
 
   writable_back : (x : A) → writable T x ≡ true → value_of T (number_in T x) ≡ x
-  writable_back x f = ⊎_elim (λ m. m.0) (λ c. carried-back x c.0 f) (s.split x)
+  writable_back x f = ⊎_elim (λ m. m.0) (λ c. carried_back x c.0 f) (s.split x)
 
   pub inverse : Inverse (number_in T) (value_of T) (writable T)
   inverse =
       record {
-        there = number-there;
-        is-writable = λ n. gives-writable (value_of T n) (ap (value_of T) (number-there n));
+        there = number_there;
+        is_writable = λ n. gives_writable (value_of T n) (ap (value_of T) (number_there n));
         back = writable_back;
-        only = gives-writable;
+        only = gives_writable;
         one_value = λ x y f g e. sym (writable_back x f) ∙ ap (value_of T) e ∙ writable_back y g;
-        one_number = λ m n e. sym (number-there m) ∙ ap (number_in T) e ∙ number-there n;
+        one_number = λ m n e. sym (number_there m) ∙ ap (number_in T) e ∙ number_there n;
       }
 
   -- the names are the first variants
@@ -141,10 +141,10 @@ module _ {A : Type 0} (T : Numbering A) (tag : A → ℕ) (s : Sound T tag) wher
   is_name x o = ⊎_elim (λ m. m) (λ c. absurd (omega (arith, under 0 (length T.names) (tag x) o, c.1))) (s.split x)
 
   -- `match` on a value finds a name: it is writable
-  pub name-writable : (x : A) → OneOf (upto 0 (length T.names)) (tag x) → true ≡ writable T x
-  name-writable x o = sym (gives-writable x (is_name x o).0)
+  pub name_writable : (x : A) → OneOf (upto 0 (length T.names)) (tag x) → true ≡ writable T x
+  name_writable x o = sym (gives_writable x (is_name x o).0)
 
   -- `match` on what its number stands for finds a name
   pub own_name : (x own : A) → own ≡ value_of T (number_in T x) → OneOf (upto 0 (length T.names)) (tag own)
-      → eqb named (classIn T x) ≡ writable T x
-  own_name x own e o = writable-by T x own named (is_name own o).1 e
+      → eqb named (class_in T x) ≡ writable T x
+  own_name x own e o = writable_by T x own named (is_name own o).1 e

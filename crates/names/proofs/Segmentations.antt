@@ -38,7 +38,7 @@ use Rattle.names.specs.declared.segmentation.SegmentationTypeId.TheVariants.{
   NetworkEnd,
   Reserved,
 }
-use Rattle.names.specs.Segmentation.{segmentationNumber, segmentations, segmentationTypeOf, writableSegmentation}
+use Rattle.names.specs.Segmentation.{segmentation_number, segmentations, segmentation_type_of, writable_segmentation}
 use Rattle.names.specs.contracts.segmentation.SegmentationTypeId.{the_type}
 use Rattle.names.proofs.Laws.{Name, Carried, Sound, Inverse, inverse}
 
@@ -76,6 +76,6 @@ split (Reserved n) = inr ((λ e. omega arith, λ e. refl), lit≤ tt)
 pub sound : Sound segmentations (tag_of the_type)
 sound = record { carries = λ n. refl; listed = refl; split = split }
 
-pub segmentation-laws : Inverse segmentationNumber segmentationTypeOf writableSegmentation
-unfolding segmentationTypeOf writableSegmentation
-segmentation-laws = inverse segmentations (tag_of the_type) sound
+pub segmentation_laws : Inverse segmentation_number segmentation_type_of writable_segmentation
+unfolding segmentation_type_of writable_segmentation
+segmentation_laws = inverse segmentations (tag_of the_type) sound

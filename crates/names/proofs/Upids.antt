@@ -26,11 +26,11 @@ use Rattle.names.specs.declared.upid.SegmentationUpidType.TheVariants.{
   URI,
   Reserved,
 }
-use Rattle.names.specs.Upid.{upidTypeNumber, upidTypes, upidTypeOf, writableUpidType}
+use Rattle.names.specs.Upid.{upid_type_number, upid_types, upid_type_of, writable_upid_type}
 use Rattle.names.specs.contracts.upid.SegmentationUpidType.{the_type}
 use Rattle.names.proofs.Laws.{Name, Carried, Sound, Inverse, inverse}
 
-split : (x : SegmentationUpidType) → Name upidTypes x ⊎ (Carried upidTypes x × (length upidTypes.names ≤ tag_of the_type x))
+split : (x : SegmentationUpidType) → Name upid_types x ⊎ (Carried upid_types x × (length upid_types.names ≤ tag_of the_type x))
 split NotUsed = inl (refl, refl)
 split UserDefinedDeprecated = inl (refl, refl)
 split ISCIDeprecated = inl (refl, refl)
@@ -49,9 +49,9 @@ split ADS = inl (refl, refl)
 split URI = inl (refl, refl)
 split (Reserved n) = inr ((λ e. omega arith, λ e. refl), lit≤ tt)
 
-pub sound : Sound upidTypes (tag_of the_type)
+pub sound : Sound upid_types (tag_of the_type)
 sound = record { carries = λ n. refl; listed = refl; split = split }
 
-pub upid-type-laws : Inverse upidTypeNumber upidTypeOf writableUpidType
-unfolding upidTypeOf writableUpidType
-upid-type-laws = inverse upidTypes (tag_of the_type) sound
+pub upid_type_laws : Inverse upid_type_number upid_type_of writable_upid_type
+unfolding upid_type_of writable_upid_type
+upid_type_laws = inverse upid_types (tag_of the_type) sound

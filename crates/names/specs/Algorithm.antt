@@ -12,32 +12,32 @@ use Rattle.names.specs.declared.algorithm.EncryptionAlgorithm.TheVariants.{
 use Rattle.names.specs.Numbering.{Entry, named, reserved, private, Numbering, value_of, writable}
 
 -- The table: the number and the class of each value, the names in the order of their numbers.
-abbrev pub algorithmEntry : EncryptionAlgorithm → Entry
-algorithmEntry None = (0, named)
-algorithmEntry DesEcb = (1, named)
-algorithmEntry DesCbc = (2, named)
-algorithmEntry TripleDesEde3Ecb = (3, named)
-algorithmEntry (Reserved n) = (n, reserved)
-algorithmEntry (Private n) = (n, private)
+abbrev pub algorithm_entry : EncryptionAlgorithm → Entry
+algorithm_entry None = (0, named)
+algorithm_entry DesEcb = (1, named)
+algorithm_entry DesCbc = (2, named)
+algorithm_entry TripleDesEde3Ecb = (3, named)
+algorithm_entry (Reserved n) = (n, reserved)
+algorithm_entry (Private n) = (n, private)
 
-abbrev pub algorithmNumber : EncryptionAlgorithm → ℕ
-algorithmNumber x = (algorithmEntry x).0
+abbrev pub algorithm_number : EncryptionAlgorithm → ℕ
+algorithm_number x = (algorithm_entry x).0
 
 -- 01: 4 to 31 reserved, 32 to 63 private; as a bare number, 64 to 255 too
-abbrev pub otherAlgorithm : ℕ → EncryptionAlgorithm
-otherAlgorithm n = pick (ltb n 32) (Reserved n) (Private n)
+abbrev pub other_algorithm : ℕ → EncryptionAlgorithm
+other_algorithm n = pick (ltb n 32) (Reserved n) (Private n)
 
 abbrev pub algorithms : Numbering EncryptionAlgorithm
 algorithms = record {
-  entry = algorithmEntry;
+  entry = algorithm_entry;
   names = None ∷ DesEcb ∷ DesCbc ∷ TripleDesEde3Ecb ∷ [];
-  others = otherAlgorithm;
+  others = other_algorithm;
 }
 
 -- the value that a number stands for
-unfoldable pub algorithmOf : ℕ → EncryptionAlgorithm
-algorithmOf n = value_of algorithms n
+unfoldable pub algorithm_of : ℕ → EncryptionAlgorithm
+algorithm_of n = value_of algorithms n
 
 -- whether a value is what its own number stands for
-unfoldable pub writableAlgorithm : EncryptionAlgorithm → Bool
-writableAlgorithm x = writable algorithms x
+unfoldable pub writable_algorithm : EncryptionAlgorithm → Bool
+writable_algorithm x = writable algorithms x

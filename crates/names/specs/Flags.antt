@@ -15,54 +15,54 @@ pub data Answer (A : Type 0) : Type 0 where
   refuses : ℕ → List ℕ → Answer A
 
 -- 01: 12, a flag number over 1 or a restriction number over 3. It has no values.
-abbrev pub or-12 : {A : Type 0} → Option A → Answer A
-or-12 none = refuses 12 []
-or-12 (some x) = gives x
+abbrev pub or_12 : {A : Type 0} → Option A → Answer A
+or_12 none = refuses 12 []
+or_12 (some x) = gives x
 
 -- out_of_network_indicator
-abbrev pub networkFlag : NetworkIndicator → ℕ
-networkFlag NetworkIndicator.In = 0
-networkFlag NetworkIndicator.Out = 1
+abbrev pub network_flag : NetworkIndicator → ℕ
+network_flag NetworkIndicator.In = 0
+network_flag NetworkIndicator.Out = 1
 
 abbrev pub networks : List NetworkIndicator
 networks = NetworkIndicator.In ∷ NetworkIndicator.Out ∷ []
 
-unfoldable pub networkOf : ℕ → Answer NetworkIndicator
-networkOf n = or-12 (name_of networkFlag networks n)
+unfoldable pub network_of : ℕ → Answer NetworkIndicator
+network_of n = or_12 (name_of network_flag networks n)
 
-abbrev pub networkAnswer : NetworkRead → Answer NetworkIndicator
-networkAnswer (NetworkRead.Is x) = gives x
-networkAnswer NetworkRead.Refused = or-12 none
+abbrev pub network_answer : NetworkRead → Answer NetworkIndicator
+network_answer (NetworkRead.Is x) = gives x
+network_answer NetworkRead.Refused = or_12 none
 
 -- auto_return
-abbrev pub returnFlag : ReturnMode → ℕ
-returnFlag ReturnMode.Manual = 0
-returnFlag ReturnMode.Automatic = 1
+abbrev pub return_flag : ReturnMode → ℕ
+return_flag ReturnMode.Manual = 0
+return_flag ReturnMode.Automatic = 1
 
-abbrev pub returnModes : List ReturnMode
-returnModes = ReturnMode.Manual ∷ ReturnMode.Automatic ∷ []
+abbrev pub return_modes : List ReturnMode
+return_modes = ReturnMode.Manual ∷ ReturnMode.Automatic ∷ []
 
-unfoldable pub returnOf : ℕ → Answer ReturnMode
-returnOf n = or-12 (name_of returnFlag returnModes n)
+unfoldable pub return_of : ℕ → Answer ReturnMode
+return_of n = or_12 (name_of return_flag return_modes n)
 
-abbrev pub returnAnswer : ReturnRead → Answer ReturnMode
-returnAnswer (ReturnRead.Is x) = gives x
-returnAnswer ReturnRead.Refused = or-12 none
+abbrev pub return_answer : ReturnRead → Answer ReturnMode
+return_answer (ReturnRead.Is x) = gives x
+return_answer ReturnRead.Refused = or_12 none
 
 -- device_restrictions
-abbrev pub restrictionsBits : DeviceRestrictions → ℕ
-restrictionsBits DeviceRestrictions.RestrictGroup0 = 0
-restrictionsBits DeviceRestrictions.RestrictGroup1 = 1
-restrictionsBits DeviceRestrictions.RestrictGroup2 = 2
-restrictionsBits DeviceRestrictions.None = 3
+abbrev pub restrictions_bits : DeviceRestrictions → ℕ
+restrictions_bits DeviceRestrictions.RestrictGroup0 = 0
+restrictions_bits DeviceRestrictions.RestrictGroup1 = 1
+restrictions_bits DeviceRestrictions.RestrictGroup2 = 2
+restrictions_bits DeviceRestrictions.None = 3
 
 abbrev pub restrictions : List DeviceRestrictions
 restrictions =
     DeviceRestrictions.RestrictGroup0 ∷ DeviceRestrictions.RestrictGroup1 ∷ DeviceRestrictions.RestrictGroup2 ∷ DeviceRestrictions.None ∷ []
 
-unfoldable pub restrictionsOf : ℕ → Answer DeviceRestrictions
-restrictionsOf n = or-12 (name_of restrictionsBits restrictions n)
+unfoldable pub restrictions_of : ℕ → Answer DeviceRestrictions
+restrictions_of n = or_12 (name_of restrictions_bits restrictions n)
 
-abbrev pub restrictionsAnswer : RestrictionsRead → Answer DeviceRestrictions
-restrictionsAnswer (RestrictionsRead.Is x) = gives x
-restrictionsAnswer RestrictionsRead.Refused = or-12 none
+abbrev pub restrictions_answer : RestrictionsRead → Answer DeviceRestrictions
+restrictions_answer (RestrictionsRead.Is x) = gives x
+restrictions_answer RestrictionsRead.Refused = or_12 none

@@ -28,8 +28,8 @@ pub record Numbering (A : Type 0) : Type 0 where
 abbrev pub number_in : {A : Type 0} → Numbering A → A → ℕ
 number_in T x = (T.entry x).0
 
-abbrev pub classIn : {A : Type 0} → Numbering A → A → Class
-classIn T x = (T.entry x).1
+abbrev pub class_in : {A : Type 0} → Numbering A → A → Class
+class_in T x = (T.entry x).1
 
 -- the name that a number has, if it has one
 abbrev pub name_of : {A : Type 0} → (A → ℕ) → List A → ℕ → Option A
@@ -47,4 +47,4 @@ value_of T n = or (name_of (number_in T) T.names n) (T.others n)
 -- 01, refusal 33: not "a reserved number that has a name or lies in another range". The number of a writable value stands for a value of
 -- the same class, which is then the value itself.
 abbrev pub writable : {A : Type 0} → Numbering A → A → Bool
-writable T x = eqb (classIn T (value_of T (number_in T x))) (classIn T x)
+writable T x = eqb (class_in T (value_of T (number_in T x))) (class_in T x)

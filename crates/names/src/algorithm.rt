@@ -1,6 +1,6 @@
 // encryption_algorithm, six bits of the splice header.
 ghost use Rattle.std.specs.Prelude.{◌≡◌};
-ghost use Rattle.names.specs.Algorithm.{algorithmOf, algorithmNumber, writableAlgorithm};
+ghost use Rattle.names.specs.Algorithm.{algorithm_of, algorithm_number, writable_algorithm};
 
 #[derive(Drop)]
 pub enum EncryptionAlgorithm {
@@ -15,7 +15,7 @@ pub enum EncryptionAlgorithm {
 impl EncryptionAlgorithm {
     // The value that a number stands for.
     pub fn from_id(id: u8) -> EncryptionAlgorithm
-        ensures { result ≡ algorithmOf id }
+        ensures { result ≡ algorithm_of id }
     {
         match id {
             0 => EncryptionAlgorithm::None,
@@ -29,7 +29,7 @@ impl EncryptionAlgorithm {
 
     // The number of a value.
     pub fn id(self) -> u8
-        ensures { result ≡ algorithmNumber self }
+        ensures { result ≡ algorithm_number self }
     {
         match self {
             EncryptionAlgorithm::None => 0,
@@ -43,7 +43,7 @@ impl EncryptionAlgorithm {
 
     // Is it the value that its own number stands for? A name is.
     pub fn writable(self) -> bool
-        ensures { result ≡ writableAlgorithm self }
+        ensures { result ≡ writable_algorithm self }
     {
         match self {
             EncryptionAlgorithm::Reserved(n) => {

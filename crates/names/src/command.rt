@@ -1,6 +1,6 @@
 // splice_command_type, the last byte of the splice header.
 ghost use Rattle.std.specs.Prelude.{◌≡◌};
-ghost use Rattle.names.specs.Command.{commandTypeOf, commandNumber, writableCommand};
+ghost use Rattle.names.specs.Command.{command_type_of, command_number, writable_command};
 
 #[derive(Drop)]
 pub enum SpliceCommandType {
@@ -16,7 +16,7 @@ pub enum SpliceCommandType {
 impl SpliceCommandType {
     // The value that a number stands for.
     pub fn from_id(id: u8) -> SpliceCommandType
-        ensures { result ≡ commandTypeOf id }
+        ensures { result ≡ command_type_of id }
     {
         match id {
             0x00 => SpliceCommandType::SpliceNull,
@@ -32,7 +32,7 @@ impl SpliceCommandType {
 
     // The number of a value.
     pub fn id(self) -> u8
-        ensures { result ≡ commandNumber self }
+        ensures { result ≡ command_number self }
     {
         match self {
             SpliceCommandType::SpliceNull => 0x00,
@@ -47,7 +47,7 @@ impl SpliceCommandType {
 
     // Is it the value that its own number stands for? A name is.
     pub fn writable(self) -> bool
-        ensures { result ≡ writableCommand self }
+        ensures { result ≡ writable_command self }
     {
         match self {
             SpliceCommandType::Reserved(n) => {

@@ -1,7 +1,7 @@
 // The flags and the two bits of which each number has a name. Any other number is refused, with 12.
 ghost use Rattle.std.specs.Prelude.{◌≡◌};
-ghost use Rattle.names.specs.Flags.{networkFlag, networkOf, networkAnswer, returnFlag, returnOf, returnAnswer};
-ghost use Rattle.names.specs.Flags.{restrictionsBits, restrictionsOf, restrictionsAnswer};
+ghost use Rattle.names.specs.Flags.{network_flag, network_of, network_answer, return_flag, return_of, return_answer};
+ghost use Rattle.names.specs.Flags.{restrictions_bits, restrictions_of, restrictions_answer};
 
 // out_of_network_indicator
 #[derive(Drop)]
@@ -18,7 +18,7 @@ pub enum NetworkRead {
 
 impl NetworkIndicator {
     pub fn from_flag(id: u8) -> NetworkRead
-        ensures { networkAnswer result ≡ networkOf id }
+        ensures { network_answer result ≡ network_of id }
     {
         match id {
             0 => NetworkRead::Is(NetworkIndicator::In),
@@ -28,7 +28,7 @@ impl NetworkIndicator {
     }
 
     pub fn flag(self) -> u8
-        ensures { result ≡ networkFlag self }
+        ensures { result ≡ network_flag self }
     {
         match self {
             NetworkIndicator::In => 0,
@@ -52,7 +52,7 @@ pub enum ReturnRead {
 
 impl ReturnMode {
     pub fn from_flag(flag: u8) -> ReturnRead
-        ensures { returnAnswer result ≡ returnOf flag }
+        ensures { return_answer result ≡ return_of flag }
     {
         match flag {
             0 => ReturnRead::Is(ReturnMode::Manual),
@@ -62,7 +62,7 @@ impl ReturnMode {
     }
 
     pub fn flag(self) -> u8
-        ensures { result ≡ returnFlag self }
+        ensures { result ≡ return_flag self }
     {
         match self {
             ReturnMode::Manual => 0,
@@ -88,7 +88,7 @@ pub enum RestrictionsRead {
 
 impl DeviceRestrictions {
     pub fn from_bits(restriction: u8) -> RestrictionsRead
-        ensures { restrictionsAnswer result ≡ restrictionsOf restriction }
+        ensures { restrictions_answer result ≡ restrictions_of restriction }
     {
         match restriction {
             0 => RestrictionsRead::Is(DeviceRestrictions::RestrictGroup0),
@@ -100,7 +100,7 @@ impl DeviceRestrictions {
     }
 
     pub fn bits(self) -> u8
-        ensures { result ≡ restrictionsBits self }
+        ensures { result ≡ restrictions_bits self }
     {
         match self {
             DeviceRestrictions::RestrictGroup0 => 0,

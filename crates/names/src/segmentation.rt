@@ -1,6 +1,6 @@
 // segmentation_type_id, what a segmentation descriptor marks.
 ghost use Rattle.std.specs.Prelude.{◌≡◌};
-ghost use Rattle.names.specs.Segmentation.{segmentationTypeOf, segmentationNumber, writableSegmentation};
+ghost use Rattle.names.specs.Segmentation.{segmentation_type_of, segmentation_number, writable_segmentation};
 
 #[derive(Drop)]
 pub enum SegmentationTypeId {
@@ -38,7 +38,7 @@ pub enum SegmentationTypeId {
 impl SegmentationTypeId {
     // The value that a number stands for.
     pub fn from_id(id: u8) -> SegmentationTypeId
-        ensures { result ≡ segmentationTypeOf id }
+        ensures { result ≡ segmentation_type_of id }
     {
         match id {
             0x00 => SegmentationTypeId::NotIndicated,
@@ -80,7 +80,7 @@ impl SegmentationTypeId {
 
     // The number of a value.
     pub fn id(self) -> u8
-        ensures { result ≡ segmentationNumber self }
+        ensures { result ≡ segmentation_number self }
     {
         match self {
             SegmentationTypeId::NotIndicated => 0x00,
@@ -117,7 +117,7 @@ impl SegmentationTypeId {
 
     // Is it the value that its own number stands for? A name is.
     pub fn writable(self) -> bool
-        ensures { result ≡ writableSegmentation self }
+        ensures { result ≡ writable_segmentation self }
     {
         match self {
             SegmentationTypeId::Reserved(n) => {

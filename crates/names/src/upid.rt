@@ -1,6 +1,6 @@
 // segmentation_upid_type, which says what kind of identifier a UPID is.
 ghost use Rattle.std.specs.Prelude.{◌≡◌};
-ghost use Rattle.names.specs.Upid.{upidTypeOf, upidTypeNumber, writableUpidType};
+ghost use Rattle.names.specs.Upid.{upid_type_of, upid_type_number, writable_upid_type};
 
 #[derive(Drop)]
 pub enum SegmentationUpidType {
@@ -26,7 +26,7 @@ pub enum SegmentationUpidType {
 impl SegmentationUpidType {
     // The value that a number stands for.
     pub fn from_type(id: u8) -> SegmentationUpidType
-        ensures { result ≡ upidTypeOf id }
+        ensures { result ≡ upid_type_of id }
     {
         match id {
             0 => SegmentationUpidType::NotUsed,
@@ -51,7 +51,7 @@ impl SegmentationUpidType {
 
     // The number of a value.
     pub fn id(self) -> u8
-        ensures { result ≡ upidTypeNumber self }
+        ensures { result ≡ upid_type_number self }
     {
         match self {
             SegmentationUpidType::NotUsed => 0,
@@ -76,7 +76,7 @@ impl SegmentationUpidType {
 
     // Is it the value that its own number stands for? A name is.
     pub fn writable(self) -> bool
-        ensures { result ≡ writableUpidType self }
+        ensures { result ≡ writable_upid_type self }
     {
         match self {
             SegmentationUpidType::Reserved(n) => {

@@ -1,13 +1,13 @@
 // One identifier of a section replaced, and every length around it and the CRC mended. All tests come first, in the order of the refusals, and then the stores,
 // so that a refused write changes no byte.
 ghost use Rattle.std.specs.Prelude.{◌≡◌, [], ◌∷◌, ◌+◌, ◌-◌, ◌<◌, ◌≤◌, length, get_or};
-ghost use Rattle.bit_stores.specs.Written.{answer_of, laterOf};
-ghost use Rattle.relabel_joined.specs.Relabel.{typeThen};
-ghost use Rattle.table.specs.Bits.{bigEndian};
+ghost use Rattle.bit_stores.specs.Written.{answer_of, later_of};
+ghost use Rattle.relabel_joined.specs.Relabel.{type_then};
+ghost use Rattle.table.specs.Bits.{big_endian};
 ghost use Rattle.table.specs.Lent.{stored};
-ghost use Rattle.relabel.specs.Relabel.{loopMade, relabelMade};
-ghost use Rattle.section.specs.Section.{commandLength, loopLength};
-ghost use Rattle.relabel.specs.Private.{Spotted, place_in, Lies, Takes, Limit, oldSize, upToUpid, sealed, placedMade};
+ghost use Rattle.relabel.specs.Relabel.{loop_made, relabel_made};
+ghost use Rattle.section.specs.Section.{command_length, loop_length};
+ghost use Rattle.relabel.specs.Private.{Spotted, place_in, Lies, Takes, Limit, old_size, up_to_upid, sealed, placed_made};
 
 use bit_stores::Written;
 use command::{CommandRead, read_command};
@@ -50,7 +50,7 @@ fn beyond(a: usize, b: usize) -> usize
 
 // The type of the UPID then: with part 0 the new one, with a part of a MID the MID's own.
 fn type_then(part: usize, upid_type: u8, new_type: u8) -> u8
-    ensures { result ≡ typeThen part upid_type new_type }
+    ensures { result ≡ type_then part upid_type new_type }
 {
     if part == 0 {
         return new_type;
@@ -69,7 +69,7 @@ fn store_one(target: &mut [u8], at: usize, b: u8)
 // The number in the two bytes at such a place, the high one first.
 fn store_two(target: &mut [u8], at: usize, v: usize)
     requires { (at + 2 ≤ length target.old) × (v < 65536) }
-    ensures { target.new ≡ stored target.old at (bigEndian 2 v) }
+    ensures { target.new ≡ stored target.old at (big_endian 2 v) }
 {
     store_one(target, at, (v / 256) as u8);
     store_one(target, at + 1, (v % 256) as u8);
@@ -78,7 +78,7 @@ fn store_two(target: &mut [u8], at: usize, v: usize)
 // All up to the UPID's bytes, of which there are n: copied as it stands, and then section_length, the loop's length, the item's and the UPID's head are mended.
 fn store_front(section: &[u8], p: Place, upid_type: u8, n: usize, target: &mut [u8])
     requires { Lies section.now p × Takes section.now p n × (p.head + 2 ≤ length target.old) }
-    ensures { target.new ≡ stored target.old 0 (upToUpid section.now p upid_type n) }
+    ensures { target.new ≡ stored target.old 0 (up_to_upid section.now p upid_type n) }
 {
     let head = p.head;
     let start = head + 2;
@@ -94,7 +94,7 @@ fn store_front(section: &[u8], p: Place, upid_type: u8, n: usize, target: &mut [
 
 // All behind the UPID's n bytes, and the CRC.
 fn store_back(section: &[u8], p: Place, n: usize, target: &mut [u8])
-    requires { Lies section.now p × Takes section.now p n × (length section.now - oldSize p + n ≤ length target.old) }
+    requires { Lies section.now p × Takes section.now p n × (length section.now - old_size p + n ≤ length target.old) }
     ensures { target.new ≡ sealed section.now p n target.old }
 {
     let end = p.end;
@@ -108,8 +108,8 @@ fn store_back(section: &[u8], p: Place, n: usize, target: &mut [u8])
 
 // All around the UPID's n bytes, in the order in which it stands.
 fn store_around(section: &[u8], p: Place, upid_type: u8, n: usize, target: &mut [u8])
-    requires { Lies section.now p × Takes section.now p n × (length section.now - oldSize p + n ≤ length target.old) }
-    ensures { target.new ≡ sealed section.now p n (stored target.old 0 (upToUpid section.now p upid_type n)) }
+    requires { Lies section.now p × Takes section.now p n × (length section.now - old_size p + n ≤ length target.old) }
+    ensures { target.new ≡ sealed section.now p n (stored target.old 0 (up_to_upid section.now p upid_type n)) }
 {
     store_front(section, p, upid_type, n, target);
     store_back(section, p, n, target);
@@ -126,8 +126,8 @@ fn relabel_at(
     target: &mut [u8],
 ) -> Written
     requires { Lies section.now p × Limit section.now p limit }
-    ensures answer { result ≡ answer_of (placedMade section.now p limit part new_type new.now) target.old }
-    ensures bytes { target.new ≡ laterOf (placedMade section.now p limit part new_type new.now) target.old }
+    ensures answer { result ≡ answer_of (placed_made section.now p limit part new_type new.now) target.old }
+    ensures bytes { target.new ≡ later_of (placed_made section.now p limit part new_type new.now) target.old }
 {
     let head = p.head;
     let start = head + 2;
@@ -168,7 +168,7 @@ fn limit_of(section: &[u8], p: Place) -> usize
 
 // The place of the item at an offset of the loop, where one is found.
 fn place_of(section: &[u8], list: usize, len: usize, offset: usize) -> Place
-    requires { Spotted section.now offset × (list ≡ 16 + commandLength section.now) × (len ≡ loopLength section.now) }
+    requires { Spotted section.now offset × (list ≡ 16 + command_length section.now) × (len ≡ loop_length section.now) }
     ensures { result ≡ place_in section.now offset }
 {
     let item = list + offset;
@@ -198,9 +198,9 @@ fn relabel_in(
     new: &[u8],
     target: &mut [u8],
 ) -> Written
-    requires { (list ≡ 16 + commandLength section.now) × (len ≡ loopLength section.now) × (20 + commandLength section.now + loopLength section.now ≤ length section.now) × (length section.now ≤ 4096) }
-    ensures answer { result ≡ answer_of (loopMade section.now offset part upid_type new.now) target.old }
-    ensures bytes { target.new ≡ laterOf (loopMade section.now offset part upid_type new.now) target.old }
+    requires { (list ≡ 16 + command_length section.now) × (len ≡ loop_length section.now) × (20 + command_length section.now + loop_length section.now ≤ length section.now) × (length section.now ≤ 4096) }
+    ensures answer { result ≡ answer_of (loop_made section.now offset part upid_type new.now) target.old }
+    ensures bytes { target.new ≡ later_of (loop_made section.now offset part upid_type new.now) target.old }
 {
     let end = list + len;
     if !spots_active(&section[list..end], offset) {
@@ -222,8 +222,8 @@ pub fn relabel(
     new: &[u8],
     target: &mut [u8],
 ) -> Written
-    ensures answer { result ≡ answer_of (relabelMade section.now offset part upid_type new.now) target.old }
-    ensures bytes { target.new ≡ laterOf (relabelMade section.now offset part upid_type new.now) target.old }
+    ensures answer { result ≡ answer_of (relabel_made section.now offset part upid_type new.now) target.old }
+    ensures bytes { target.new ≡ later_of (relabel_made section.now offset part upid_type new.now) target.old }
 {
     let frame = match read_frame(section) {
         FrameRead::Is(f) => f,

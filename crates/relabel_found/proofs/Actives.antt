@@ -11,14 +11,14 @@ use lib.ListN.{length, take, drop, get_or, length-take, length-drop, length-appe
 use lib.Seq.{get_or-take, get_or-drop, get_or-append_seam, get_or-append-add, take-append_seam, drop-append-add, take_at}
 use borrow.Author.Tests.{eqb-true}
 use Rattle.upid.proofs.Laws.{by_cases}
-use Rattle.table.proofs.Lists.{zero_one, and-true}
+use Rattle.table.proofs.Lists.{zero_one, and_true}
 use Rattle.table.specs.Bits.{pick, bits_of}
 use Rattle.table.specs.Table.{Answer, got, short, parse}
-use Rattle.descriptor.specs.Descriptor.{◌andThen◌, availOf, dtmfOf, segmentationOf, timeOf, reservedOf, isCuei, cuei, descriptorOf}
-use Rattle.descriptor.specs.Plain.{avail, dtmf, time, privateBytes}
+use Rattle.descriptor.specs.Descriptor.{◌andThen◌, avail_of, dtmf_of, segmentation_of, time_of, reserved_of, is_cuei, cuei, descriptor_of}
+use Rattle.descriptor.specs.Plain.{avail, dtmf, time, private_bytes}
 use Rattle.descriptor.specs.Segmentation.{cancelled}
 use Rattle.upid.specs.declared.Refusal.TheVariants.{NotEnoughData}
-use Rattle.descriptor.specs.Views.{withUpids}
+use Rattle.descriptor.specs.Views.{with_upids}
 use Rattle.descriptor.specs.declared.Descriptor.{Descriptor}
 use Rattle.descriptor.specs.declared.Descriptor.TheVariants.{Avail, Dtmf, Segmentation, Time, Reserved}
 use Rattle.descriptor.specs.declared.DescriptorRead.{DescriptorRead}
@@ -28,77 +28,77 @@ use Rattle.descriptor.specs.declared.segmentation.DescriptorDetail.{DescriptorDe
 use Rattle.descriptor.specs.declared.segmentation.DescriptorDetail.TheVariants.{Cancel, Active}
 use Rattle.descriptor.specs.declared.segmentation.SegmentationDetail.{SegmentationDetail}
 use Rattle.descriptor_loop.proofs.Steps.{Clause, long, ended, last, small, entire, clause, Stands}
-use Rattle.descriptor_loop.specs.Items.{item_at, readAt, completeAt, step_of, items_of}
-use Rattle.descriptor_loop.specs.Place.{movedDescriptor, movedUpid}
+use Rattle.descriptor_loop.specs.Items.{item_at, read_at, complete_at, step_of, items_of}
+use Rattle.descriptor_loop.specs.Place.{moved_descriptor, moved_upid}
 use Rattle.descriptor_loop.specs.declared.Item.{Item}
 use Rattle.descriptor_loop.specs.declared.Item.TheVariants.{Is}
 use Rattle.descriptor_loop.specs.declared.Step.{Step}
-use Rattle.relabel_payload.proofs.Theorems.{of-the-payload-only-the-upid-differs}
-use Rattle.relabel_payload.specs.Payload.{payload, upidHead, Holed}
-use Rattle.relabel_found.specs.Found.{begins, isActive, found, payloadAt, foreIn, typeIn, sizeIn, upidIn, postIn}
+use Rattle.relabel_payload.proofs.Theorems.{of_the_payload_only_the_upid_differs}
+use Rattle.relabel_payload.specs.Payload.{payload, upid_head, Holed}
+use Rattle.relabel_found.specs.Found.{begins, is_active, found, payload_at, fore_in, type_in, size_in, upid_in, post_in}
 
 -- ---- which reading is a segmentation descriptor that is not cancelled
 
-abbrev activeOrNot : ℕ → DescriptorRead → Bool
-activeOrNot base r = isActive (item_at base r)
+abbrev active_or_not : ℕ → DescriptorRead → Bool
+active_or_not base r = is_active (item_at base r)
 
 -- no other reader gives one
-then-not : {X : Type 0} (base : ℕ) (a : Answer X) (k : X → ℕ → DescriptorRead) → ((x : X) (m : ℕ) → activeOrNot base (k x m) ≡ false) → activeOrNot base (a and_then k) ≡ false
-then-not base (got x m) k h = h x m
-then-not base (short e f) k h = refl
+then_not : {X : Type 0} (base : ℕ) (a : Answer X) (k : X → ℕ → DescriptorRead) → ((x : X) (m : ℕ) → active_or_not base (k x m) ≡ false) → active_or_not base (a and_then k) ≡ false
+then_not base (got x m) k h = h x m
+then_not base (short e f) k h = refl
 
-pick-not : (base : ℕ) (b : Bool) (r q : DescriptorRead) → activeOrNot base r ≡ false → activeOrNot base q ≡ false → activeOrNot base (pick b r q) ≡ false
-pick-not base true r q hr hq = hr
-pick-not base false r q hr hq = hq
+pick_not : (base : ℕ) (b : Bool) (r q : DescriptorRead) → active_or_not base r ≡ false → active_or_not base q ≡ false → active_or_not base (pick b r q) ≡ false
+pick_not base true r q hr hq = hr
+pick_not base false r q hr hq = hq
 
 module _ (base : ℕ) (s : List ℕ) where
-  avail-not : activeOrNot base (availOf s) ≡ false
-  unfolding availOf
-  avail-not =
-      pick-not base (ltb (length s) 4) (read.Refused (NotEnoughData 4 (length s))) (parse avail (bits_of s) 0 and_then λ x at. read.Is (Avail x)) refl
-      (then-not base (parse avail (bits_of s) 0) (λ x at. read.Is (Avail x)) λ x m. refl)
+  avail_not : active_or_not base (avail_of s) ≡ false
+  unfolding avail_of
+  avail_not =
+      pick_not base (ltb (length s) 4) (read.Refused (NotEnoughData 4 (length s))) (parse avail (bits_of s) 0 and_then λ x at. read.Is (Avail x)) refl
+      (then_not base (parse avail (bits_of s) 0) (λ x at. read.Is (Avail x)) λ x m. refl)
 
-  dtmf-not : activeOrNot base (dtmfOf s) ≡ false
-  unfolding dtmfOf
-  dtmf-not = then-not base (parse dtmf (bits_of s) 0) (λ x at. read.Is (Dtmf x)) λ x m. refl
+  dtmf_not : active_or_not base (dtmf_of s) ≡ false
+  unfolding dtmf_of
+  dtmf_not = then_not base (parse dtmf (bits_of s) 0) (λ x at. read.Is (Dtmf x)) λ x m. refl
 
-  time-not : activeOrNot base (timeOf s) ≡ false
-  unfolding timeOf
-  time-not =
-      pick-not base (ltb (length s) 12) (read.Refused (NotEnoughData 12 (length s))) (parse time (bits_of s) 0 and_then λ x at. read.Is (Time x)) refl
-      (then-not base (parse time (bits_of s) 0) (λ x at. read.Is (Time x)) λ x m. refl)
+  time_not : active_or_not base (time_of s) ≡ false
+  unfolding time_of
+  time_not =
+      pick_not base (ltb (length s) 12) (read.Refused (NotEnoughData 12 (length s))) (parse time (bits_of s) 0 and_then λ x at. read.Is (Time x)) refl
+      (then_not base (parse time (bits_of s) 0) (λ x at. read.Is (Time x)) λ x m. refl)
 
-  reserved-not : (tag : ℕ) → activeOrNot base (reservedOf tag s) ≡ false
-  unfolding reservedOf
-  reserved-not tag = then-not base (parse privateBytes (bits_of s) 0) (λ v at. read.Is (Reserved tag v)) λ x m. refl
+  reserved_not : (tag : ℕ) → active_or_not base (reserved_of tag s) ≡ false
+  unfolding reserved_of
+  reserved_not tag = then_not base (parse private_bytes (bits_of s) 0) (λ v at. read.Is (Reserved tag v)) λ x m. refl
 
   -- by tag and identifier
   pub record Tagged (tag : ℕ) (id : List ℕ) : Type 0 where
     pub tag_is : tag ≡ 2
-    pub id-is : isCuei id ≡ true
-    pub reads : descriptorOf tag id s ≡ segmentationOf s
+    pub id_is : is_cuei id ≡ true
+    pub reads : descriptor_of tag id s ≡ segmentation_of s
 
-  false-true : {A : Type 0} (b : Bool) → b ≡ false → b ≡ true → A
-  false-true b e f = zero_one cc
+  false_true : {A : Type 0} (b : Bool) → b ≡ false → b ≡ true → A
+  false_true b e f = zero_one cc
 
   module _ (tag : ℕ) (id : List ℕ) where
-    tagged : activeOrNot base (descriptorOf tag id s) ≡ true → Tagged tag id
-    unfolding descriptorOf
-    tagged e = go (isCuei id) refl e
+    tagged : active_or_not base (descriptor_of tag id s) ≡ true → Tagged tag id
+    unfolding descriptor_of
+    tagged e = go (is_cuei id) refl e
       where
-        in-cuei : isCuei id ≡ true → (a b c d : Bool) → eqb tag 0 ≡ a → eqb tag 1 ≡ b → eqb tag 2 ≡ c → eqb tag 3 ≡ d
-            → activeOrNot base (pick a (availOf s) (pick b (dtmfOf s) (pick c (segmentationOf s) (pick d (timeOf s) (reservedOf tag s))))) ≡ true → Tagged tag id
-        in-cuei ci true b c d ea eb ec ed h = false-true _ avail-not h
-        in-cuei ci false true c d ea eb ec ed h = false-true _ dtmf-not h
-        in-cuei ci false false true d ea eb ec ed h = record { tag_is = eqb-true tag 2 ec; id-is = ci; reads = rw (ci, ea, eb, ec) }
-        in-cuei ci false false false true ea eb ec ed h = false-true _ time-not h
-        in-cuei ci false false false false ea eb ec ed h = false-true _ (reserved-not tag) h
+        in_cuei : is_cuei id ≡ true → (a b c d : Bool) → eqb tag 0 ≡ a → eqb tag 1 ≡ b → eqb tag 2 ≡ c → eqb tag 3 ≡ d
+            → active_or_not base (pick a (avail_of s) (pick b (dtmf_of s) (pick c (segmentation_of s) (pick d (time_of s) (reserved_of tag s))))) ≡ true → Tagged tag id
+        in_cuei ci true b c d ea eb ec ed h = false_true _ avail_not h
+        in_cuei ci false true c d ea eb ec ed h = false_true _ dtmf_not h
+        in_cuei ci false false true d ea eb ec ed h = record { tag_is = eqb-true tag 2 ec; id_is = ci; reads = rw (ci, ea, eb, ec) }
+        in_cuei ci false false false true ea eb ec ed h = false_true _ time_not h
+        in_cuei ci false false false false ea eb ec ed h = false_true _ (reserved_not tag) h
 
-        go : (b : Bool) → isCuei id ≡ b
-            → activeOrNot base (pick b (pick (eqb tag 0) (availOf s) (pick (eqb tag 1) (dtmfOf s) (pick (eqb tag 2) (segmentationOf s) (pick (eqb tag 3) (timeOf s) (reservedOf tag s))))) (reservedOf tag s)) ≡ true
+        go : (b : Bool) → is_cuei id ≡ b
+            → active_or_not base (pick b (pick (eqb tag 0) (avail_of s) (pick (eqb tag 1) (dtmf_of s) (pick (eqb tag 2) (segmentation_of s) (pick (eqb tag 3) (time_of s) (reserved_of tag s))))) (reserved_of tag s)) ≡ true
             → Tagged tag id
-        go true ci h = in-cuei ci (eqb tag 0) (eqb tag 1) (eqb tag 2) (eqb tag 3) refl refl refl refl h
-        go false ci h = false-true _ (reserved-not tag) h
+        go true ci h = in_cuei ci (eqb tag 0) (eqb tag 1) (eqb tag 2) (eqb tag 3) refl refl refl refl h
+        go false ci h = false_true _ (reserved_not tag) h
 
 -- what it reads as
 pub record ActiveIn (base : ℕ) (r : DescriptorRead) : Type 0 where
@@ -107,15 +107,15 @@ pub record ActiveIn (base : ℕ) (r : DescriptorRead) : Type 0 where
   pub is : r ≡ read.Is (Segmentation x)
   pub detail : x.descriptor_detail ≡ Active i
 
-active-so : (base : ℕ) (r : DescriptorRead) → activeOrNot base r ≡ true → ActiveIn base r
-active-so base (read.Refused q) e = zero_one cc
-active-so base (read.Is (Avail x)) e = zero_one cc
-active-so base (read.Is (Dtmf x)) e = zero_one cc
-active-so base (read.Is (Time x)) e = zero_one cc
-active-so base (read.Is (Reserved tag v)) e = zero_one cc
-active-so base (read.Is (Segmentation x)) e = go x.descriptor_detail refl e
+active_so : (base : ℕ) (r : DescriptorRead) → active_or_not base r ≡ true → ActiveIn base r
+active_so base (read.Refused q) e = zero_one cc
+active_so base (read.Is (Avail x)) e = zero_one cc
+active_so base (read.Is (Dtmf x)) e = zero_one cc
+active_so base (read.Is (Time x)) e = zero_one cc
+active_so base (read.Is (Reserved tag v)) e = zero_one cc
+active_so base (read.Is (Segmentation x)) e = go x.descriptor_detail refl e
   where
-    go : (d : DescriptorDetail) → x.descriptor_detail ≡ d → not (cancelled (withUpids (movedUpid base) d)) ≡ true → ActiveIn base (read.Is (Segmentation x))
+    go : (d : DescriptorDetail) → x.descriptor_detail ≡ d → not (cancelled (with_upids (moved_upid base) d)) ≡ true → ActiveIn base (read.Is (Segmentation x))
     go Cancel ed h = zero_one cc
     go (Active i) ed h = record { x = x; i = i; is = refl; detail = ed }
 
@@ -128,12 +128,12 @@ four (a ∷ (b ∷ (c ∷ []))) h = absurd (omega arith)
 four (a ∷ (b ∷ (c ∷ (d ∷ [])))) h = refl
 four (a ∷ (b ∷ (c ∷ (d ∷ (e ∷ l))))) h = absurd (omega arith)
 
-cuei-is : (id : List ℕ) → length id ≡ 4 → isCuei id ≡ true → id ≡ cuei
-unfolding isCuei
-cuei-is id n e =
-    let t = and-true _ _ e in
-    let u = and-true _ _ t.1 in
-    let v = and-true _ _ u.1 in
+cuei_is : (id : List ℕ) → length id ≡ 4 → is_cuei id ≡ true → id ≡ cuei
+unfolding is_cuei
+cuei_is id n e =
+    let t = and_true _ _ e in
+    let u = and_true _ _ t.1 in
+    let v = and_true _ _ u.1 in
     let a : get_or id 0 0 ≡ 0x43 = eqb-true _ _ t.0 in
     let b : get_or id 1 0 ≡ 0x55 = eqb-true _ _ u.0 in
     let c : get_or id 2 0 ≡ 0x45 = eqb-true _ _ v.0 in
@@ -150,46 +150,46 @@ pub record ActiveAt (loop : List ℕ) (offset : ℕ) : Type 0 where
   pub next : (step_of loop offset).next ≡ offset + (get_or loop (offset + 1) 0 + 2)
   pub x : SegmentationDescriptor
   pub i : SegmentationDetail
-  pub reads : segmentationOf (payloadAt loop offset) ≡ read.Is (Segmentation x)
+  pub reads : segmentation_of (payload_at loop offset) ≡ read.Is (Segmentation x)
   pub detail : x.descriptor_detail ≡ Active i
-  pub item : (step_of loop offset).item ≡ Is (movedDescriptor (offset + 6) (Segmentation x))
+  pub item : (step_of loop offset).item ≡ Is (moved_descriptor (offset + 6) (Segmentation x))
 
 module _ (loop : List ℕ) (offset : ℕ) where
-  complete-actives : (L : ℕ) → L ≡ get_or loop (offset + 1) 0 → Stands loop offset L → 4 ≤ L → step_of loop offset ≡ completeAt loop offset L → isActive (completeAt loop offset L).item ≡ true → ActiveAt loop offset
-  unfolding completeAt readAt
-  complete-actives L is s h st e =
+  complete_actives : (L : ℕ) → L ≡ get_or loop (offset + 1) 0 → Stands loop offset L → 4 ≤ L → step_of loop offset ≡ complete_at loop offset L → is_active (complete_at loop offset L).item ≡ true → ActiveAt loop offset
+  unfolding complete_at read_at
+  complete_actives L is s h st e =
       let pay : List ℕ = take (L - 4) (drop (offset + 6) loop) in
       let t = tagged (offset + 6) pay (get_or loop offset 0) (take 4 (drop (offset + 2) loop)) e in
       let n : length (take 4 (drop (offset + 2) loop)) ≡ 4 = omega (arith, length-take 4 (drop (offset + 2) loop), length-drop (offset + 2) loop, s.six) in
-      let f : isActive (item_at (offset + 6) (segmentationOf pay)) ≡ true = ap (λ (r : DescriptorRead). isActive (item_at (offset + 6) r)) (sym t.reads) ∙ e in
-      let j = active-so (offset + 6) (segmentationOf pay) f in
+      let f : is_active (item_at (offset + 6) (segmentation_of pay)) ≡ true = ap (λ (r : DescriptorRead). is_active (item_at (offset + 6) r)) (sym t.reads) ∙ e in
+      let j = active_so (offset + 6) (segmentation_of pay) f in
       record {
         stands = subst (λ (l : ℕ). Stands loop offset l) is s;
         named = omega (arith, is);
         tag = t.tag_is;
-        id = cuei-is _ n t.id-is;
+        id = cuei_is _ n t.id_is;
         next = ap (λ (y : Step). y.next) st ∙ omega (arith, is);
         x = j.x;
         i = j.i;
-        reads = ap (λ (l : ℕ). segmentationOf (take (l - 4) (drop (offset + 6) loop))) (sym is) ∙ j.is;
+        reads = ap (λ (l : ℕ). segmentation_of (take (l - 4) (drop (offset + 6) loop))) (sym is) ∙ j.is;
         detail = j.detail;
         item = ap (λ (y : Step). y.item) st ∙ ap (item_at (offset + 6)) (t.reads ∙ j.is);
       }
 
-  by-clause : {s : Step} → Clause loop offset s → step_of loop offset ≡ s → isActive s.item ≡ true → ActiveAt loop offset
-  by-clause (long h) st e = zero_one cc
-  by-clause (ended h) st e = zero_one cc
-  by-clause (last r v h) st e = zero_one cc
-  by-clause (small L s) st e = zero_one cc
-  by-clause (entire L s h) st e = complete-actives L s.is s h st e
+  by_clause : {s : Step} → Clause loop offset s → step_of loop offset ≡ s → is_active s.item ≡ true → ActiveAt loop offset
+  by_clause (long h) st e = zero_one cc
+  by_clause (ended h) st e = zero_one cc
+  by_clause (last r v h) st e = zero_one cc
+  by_clause (small L s) st e = zero_one cc
+  by_clause (entire L s h) st e = complete_actives L s.is s h st e
 
-  pub active-at : found loop offset ≡ true → ActiveAt loop offset
+  pub active_at_lem : found loop offset ≡ true → ActiveAt loop offset
   unfolding found
-  active-at e = by-clause (clause loop offset) refl (and-true (begins (items_of loop) offset) (isActive (step_of loop offset).item) e).1
+  active_at_lem e = by_clause (clause loop offset) refl (and_true (begins (items_of loop) offset) (is_active (step_of loop offset).item) e).1
 
   pub begun : found loop offset ≡ true → begins (items_of loop) offset ≡ true
   unfolding found
-  begun e = (and-true (begins (items_of loop) offset) (isActive (step_of loop offset).item) e).0
+  begun e = (and_true (begins (items_of loop) offset) (is_active (step_of loop offset).item) e).0
 
 -- ---- its payload, by places
 
@@ -197,49 +197,49 @@ module _ (pay : List ℕ) (event : ℕ) (i : SegmentationDetail) (h : Holed pay 
   tail : List ℕ
   tail = h.upid_type ∷ (length h.bytes ∷ (h.bytes ++ h.post))
 
-  is-tail : pay ≡ h.fore ++ tail
+  is_tail : pay ≡ h.fore ++ tail
   unfolding tail
-  is-tail = h.is
+  is_tail = h.is
 
-  pub fore-in : h.fore ≡ foreIn pay
-  fore-in =
-      sym (take_at h.fore tail (upidHead pay) h.place) ∙ ap (take (upidHead pay)) (sym is-tail)
+  pub fore_in_lem : h.fore ≡ fore_in pay
+  fore_in_lem =
+      sym (take_at h.fore tail (upid_head pay) h.place) ∙ ap (take (upid_head pay)) (sym is_tail)
 
-  pub type-in : h.upid_type ≡ typeIn pay
+  pub type_in_lem : h.upid_type ≡ type_in pay
   unfolding tail
-  type-in =
+  type_in_lem =
       sym (get_or-append_seam h.fore h.upid_type (length h.bytes ∷ (h.bytes ++ h.post)) 0)
-      ∙ ap₂ (λ (l : List ℕ) (k : ℕ). get_or l k 0) (sym is-tail) h.place
+      ∙ ap₂ (λ (l : List ℕ) (k : ℕ). get_or l k 0) (sym is_tail) h.place
 
-  pub size_in : length h.bytes ≡ sizeIn pay
+  pub size_in_lem : length h.bytes ≡ size_in pay
   unfolding tail
-  size_in =
+  size_in_lem =
       sym (get_or-append-add h.fore tail 1 0)
-      ∙ ap₂ (λ (l : List ℕ) (k : ℕ). get_or l (k + 1) 0) (sym is-tail) h.place
+      ∙ ap₂ (λ (l : List ℕ) (k : ℕ). get_or l (k + 1) 0) (sym is_tail) h.place
 
-  after-head : drop (upidHead pay + 2) pay ≡ h.bytes ++ h.post
+  after_head : drop (upid_head pay + 2) pay ≡ h.bytes ++ h.post
   unfolding tail
-  after-head =
-      ap₂ (λ (k : ℕ) (l : List ℕ). drop (k + 2) l) (sym h.place) is-tail ∙ drop-append-add h.fore tail 2
+  after_head =
+      ap₂ (λ (k : ℕ) (l : List ℕ). drop (k + 2) l) (sym h.place) is_tail ∙ drop-append-add h.fore tail 2
 
-  pub upid-in : h.bytes ≡ upidIn pay
-  upid-in = sym (ap₂ take (sym size_in) after-head ∙ take-append_seam h.bytes h.post)
+  pub upid_in_lem : h.bytes ≡ upid_in pay
+  upid_in_lem = sym (ap₂ take (sym size_in_lem) after_head ∙ take-append_seam h.bytes h.post)
 
-  pub size-all : length pay ≡ upidHead pay + 2 + sizeIn pay + length h.post
+  pub size_all : length pay ≡ upid_head pay + 2 + size_in pay + length h.post
   unfolding tail
-  size-all = omega (arith, ap length is-tail, length-append h.fore tail, length-append h.bytes h.post, h.place, size_in)
+  size_all = omega (arith, ap length is_tail, length-append h.fore tail, length-append h.bytes h.post, h.place, size_in_lem)
 
-  pub post_in : h.post ≡ postIn pay
+  pub post_in_lem : h.post ≡ post_in pay
   unfolding tail
-  post_in =
-      let e : upidHead pay + 2 + sizeIn pay ≡ length h.fore + suc (suc (length h.bytes)) = omega (arith, h.place, size_in) in
+  post_in_lem =
+      let e : upid_head pay + 2 + size_in pay ≡ length h.fore + suc (suc (length h.bytes)) = omega (arith, h.place, size_in_lem) in
       let d : drop (length h.bytes + 0) (h.bytes ++ h.post) ≡ h.post = drop-append-add h.bytes h.post 0 in
       let z : length h.bytes + 0 ≡ length h.bytes = omega arith in
-      sym (ap₂ drop e is-tail ∙ drop-append-add h.fore tail (suc (suc (length h.bytes))) ∙ ap (λ (k : ℕ). drop k (h.bytes ++ h.post)) (sym z) ∙ d)
+      sym (ap₂ drop e is_tail ∙ drop-append-add h.fore tail (suc (suc (length h.bytes))) ∙ ap (λ (k : ℕ). drop k (h.bytes ++ h.post)) (sym z) ∙ d)
 
 -- ---- a run of bytes has bytes
-pub byte-in : (s : List ℕ) (a n : ℕ) → ((j : ℕ) → get_or s j 0 < 256) → (k : ℕ) → get_or (take n (drop a s)) k 0 < 256
-byte-in s a n bytes k =
+pub byte_in : (s : List ℕ) (a n : ℕ) → ((j : ℕ) → get_or s j 0 < 256) → (k : ℕ) → get_or (take n (drop a s)) k 0 < 256
+byte_in s a n bytes k =
     by_cases k n
     (λ h. omega (arith, get_or-take n (drop a s) k 0 h, get_or-drop a s k 0, bytes (a + k)))
     (λ h.
@@ -247,5 +247,5 @@ byte-in s a n bytes k =
     omega (arith, get_or-eq_default (take n (drop a s)) 0 {n = k} l))
 
 -- the item's payload is a hole that its UPID fills
-pub hole-at : (loop : List ℕ) (offset : ℕ) → ((k : ℕ) → get_or loop k 0 < 256) → (x : ActiveAt loop offset) → Holed (payloadAt loop offset) x.x.segmentation_event_id x.i
-hole-at loop offset bytes x = of-the-payload-only-the-upid-differs (payloadAt loop offset) x.x x.i (byte-in loop (offset + 6) (get_or loop (offset + 1) 0 - 4) bytes) x.reads x.detail
+pub hole_at : (loop : List ℕ) (offset : ℕ) → ((k : ℕ) → get_or loop k 0 < 256) → (x : ActiveAt loop offset) → Holed (payload_at loop offset) x.x.segmentation_event_id x.i
+hole_at loop offset bytes x = of_the_payload_only_the_upid_differs (payload_at loop offset) x.x x.i (byte_in loop (offset + 6) (get_or loop (offset + 1) 0 - 4) bytes) x.reads x.detail

@@ -3,7 +3,7 @@ ghost use Rattle.std.specs.Prelude.{◌≡◌, ◌+◌, ◌*◌, ◌/◌, ◌%�
 ghost use Rattle.table.specs.Bits.{pick};
 ghost use Rattle.descriptor_loop.specs.Items.{step_of, items_of};
 ghost use Rattle.relabel_found.specs.Found.{begins, titled, complete, spots};
-ghost use Rattle.relabel_payload.specs.Payload.{upidHead};
+ghost use Rattle.relabel_payload.specs.Payload.{upid_head};
 
 use descriptor::is_cuei;
 use descriptor_loop::{MAX_DESCRIPTOR, MAX_LOOP};
@@ -99,7 +99,7 @@ fn duration_size(flags: u8) -> usize
 
 // The place of the UPID's head in the payload of a segmentation descriptor that is not cancelled.
 pub fn upid_head(payload: &[u8]) -> usize
-    ensures { result ≡ upidHead payload.now }
+    ensures { result ≡ upid_head payload.now }
 {
     let flags = byte(payload, 5);
     6 + (components_size(flags, byte(payload, 6)) + duration_size(flags))

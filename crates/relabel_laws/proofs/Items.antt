@@ -14,41 +14,41 @@ use Rattle.descriptor.specs.Descriptor.{cuei}
 use Rattle.descriptor_loop.specs.Items.{step_of, Listed, listed}
 use Rattle.descriptor_loop.specs.declared.Item.{Item}
 use Rattle.descriptor_loop.specs.declared.Step.{Step}
-use Rattle.relabel_found.proofs.Actives.{active-at}
-use Rattle.relabel_found.specs.Found.{found, payloadAt}
-use Rattle.relabel_loop.proofs.Pieces.{piece, step-of-complete}
-use Rattle.relabel_loop.specs.Item.{segmentationItem}
-use Rattle.relabel_loop.specs.Loop.{movedItem, movedListed}
+use Rattle.relabel_found.proofs.Actives.{active_at_lem}
+use Rattle.relabel_found.specs.Found.{found, payload_at}
+use Rattle.relabel_loop.proofs.Pieces.{piece, step_of_complete}
+use Rattle.relabel_loop.specs.Item.{segmentation_item}
+use Rattle.relabel_loop.specs.Loop.{moved_item, moved_listed}
 use Rattle.upid.proofs.Laws.{by_cases}
 
 -- the item alone: its payload is all behind its head and identifier
 module _ (s : List ℕ) (short : length s ≤ 250) where
-  body-size : length (cuei ++ s) ≡ 4 + length s
-  body-size = length-append cuei s
+  body_size : length (cuei ++ s) ≡ 4 + length s
+  body_size = length-append cuei s
 
   right : length (cuei ++ s) ≤ 254
-  right = omega (arith, body-size)
+  right = omega (arith, body_size)
 
-  next-is : (step_of (segmentationItem s) 0).next ≡ 6 + length s
-  next-is =
-      let fits : length (piece 2 (cuei ++ s) right []) ≤ 4076 = omega (arith, body-size, length-append (cuei ++ s) []) in
-      let alone : segmentationItem s ≡ piece 2 (cuei ++ s) right [] = ap (λ (l : List ℕ). 2 ∷ (length (cuei ++ s) ∷ l)) (sym (append-nil (cuei ++ s))) in
+  next_is : (step_of (segmentation_item s) 0).next ≡ 6 + length s
+  next_is =
+      let fits : length (piece 2 (cuei ++ s) right []) ≤ 4076 = omega (arith, body_size, length-append (cuei ++ s) []) in
+      let alone : segmentation_item s ≡ piece 2 (cuei ++ s) right [] = ap (λ (l : List ℕ). 2 ∷ (length (cuei ++ s) ∷ l)) (sym (append-nil (cuei ++ s))) in
       ap (λ (l : List ℕ). (step_of l 0).next) alone
-      ∙ ap (λ (x : Step). x.next) (step-of-complete 2 (cuei ++ s) right [] fits (omega (arith, body-size)) (omega (arith, body-size))) ∙ omega (arith, body-size)
+      ∙ ap (λ (x : Step). x.next) (step_of_complete 2 (cuei ++ s) right [] fits (omega (arith, body_size)) (omega (arith, body_size))) ∙ omega (arith, body_size)
 
 module _ {A : Type 0} (F : Item → List ℕ → A) where
-  abbrev pub ofListed : List ℕ → Listed → A
-  ofListed loop x = F x.step.item (take (x.used - 6) (drop (x.offset + 6) loop))
+  abbrev pub of_listed : List ℕ → Listed → A
+  of_listed loop x = F x.step.item (take (x.used - 6) (drop (x.offset + 6) loop))
 
-  pub moved_listed : ((n : ℕ) (i : Item) (p : List ℕ) → F (movedItem n i) p ≡ F i p) → (pre s : List ℕ) (x : Listed) (n : ℕ) → n ≡ length pre
-      → ofListed (pre ++ s) (movedListed n x) ≡ ofListed s x
-  moved_listed same pre s x n e =
+  pub moved_listed_lem : ((n : ℕ) (i : Item) (p : List ℕ) → F (moved_item n i) p ≡ F i p) → (pre s : List ℕ) (x : Listed) (n : ℕ) → n ≡ length pre
+      → of_listed (pre ++ s) (moved_listed n x) ≡ of_listed s x
+  moved_listed_lem same pre s x n e =
       let z : n + x.offset + 6 ≡ length pre + (x.offset + 6) = omega arith in
       let d : drop (n + x.offset + 6) (pre ++ s) ≡ drop (x.offset + 6) s = ap (λ (i : ℕ). drop i (pre ++ s)) z ∙ drop-append-add pre s (x.offset + 6) in
-      ap (λ (l : List ℕ). F (movedItem n x.step.item) (take (x.used - 6) l)) d ∙ same n x.step.item (take (x.used - 6) (drop (x.offset + 6) s))
+      ap (λ (l : List ℕ). F (moved_item n x.step.item) (take (x.used - 6) l)) d ∙ same n x.step.item (take (x.used - 6) (drop (x.offset + 6) s))
 
-  pub front-listed : (a r t : List ℕ) (x : Listed) → x.offset + x.used ≤ length a → ofListed (a ++ r) x ≡ ofListed (a ++ t) x
-  front-listed a r t x h = ap (F x.step.item) (run r ∙ sym (run t))
+  pub front_listed : (a r t : List ℕ) (x : Listed) → x.offset + x.used ≤ length a → of_listed (a ++ r) x ≡ of_listed (a ++ t) x
+  front_listed a r t x h = ap (F x.step.item) (run r ∙ sym (run t))
     where
       run : (r : List ℕ) → take (x.used - 6) (drop (x.offset + 6) (a ++ r)) ≡ take (x.used - 6) (drop (x.offset + 6) a)
       run r =
@@ -60,13 +60,13 @@ module _ {A : Type 0} (F : Item → List ℕ → A) where
           ap (take (x.used - 6)) (drop-append-le (x.offset + 6) a r (omega arith))
           ∙ take-append-le (x.used - 6) (drop (x.offset + 6) a) r (omega (arith, length-drop (x.offset + 6) a)))
 
-  pub own-listed : (s : List ℕ) → length s ≤ 250 → (rest : List ℕ) → ofListed (segmentationItem s ++ rest) (listed (segmentationItem s) 0) ≡ F (step_of (segmentationItem s) 0).item s
-  own-listed s short rest =
-      let z : (step_of (segmentationItem s) 0).next - 0 - 6 ≡ length s = omega (arith, next-is s short) in
-      ap (F (step_of (segmentationItem s) 0).item) (ap (λ (n : ℕ). take n (s ++ rest)) z ∙ take-append_seam s rest)
+  pub own_listed : (s : List ℕ) → length s ≤ 250 → (rest : List ℕ) → of_listed (segmentation_item s ++ rest) (listed (segmentation_item s) 0) ≡ F (step_of (segmentation_item s) 0).item s
+  own_listed s short rest =
+      let z : (step_of (segmentation_item s) 0).next - 0 - 6 ≡ length s = omega (arith, next_is s short) in
+      ap (F (step_of (segmentation_item s) 0).item) (ap (λ (n : ℕ). take n (s ++ rest)) z ∙ take-append_seam s rest)
 
-  pub at_listed : (loop : List ℕ) (offset : ℕ) → found loop offset ≡ true → ofListed loop (listed loop offset) ≡ F (step_of loop offset).item (payloadAt loop offset)
+  pub at_listed : (loop : List ℕ) (offset : ℕ) → found loop offset ≡ true → of_listed loop (listed loop offset) ≡ F (step_of loop offset).item (payload_at loop offset)
   at_listed loop offset there =
-      let i = active-at loop offset there in
+      let i = active_at_lem loop offset there in
       let z : (step_of loop offset).next - offset - 6 ≡ get_or loop (offset + 1) 0 - 4 = omega (arith, i.next, i.named) in
       ap (λ (n : ℕ). F (step_of loop offset).item (take n (drop (offset + 6) loop))) z

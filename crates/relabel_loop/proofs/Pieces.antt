@@ -9,15 +9,15 @@ use native.Mathlib.Omega.{arith}
 use lib.ListN.{length, take, drop, get_or, length-append, length-take, length-drop, take-append-drop, length-map}
 use lib.Seq.{take-append-le, drop-append-le, take_at, drop_at, take-append-add, drop-append-add, take-append_seam, drop-append_seam, length-take-le, drop-length}
 use Rattle.upid.proofs.Laws.{by_cases}
-use Rattle.descriptor.specs.Descriptor.{descriptorOf}
-use Rattle.descriptor.specs.Full.{identifierRead}
+use Rattle.descriptor.specs.Descriptor.{descriptor_of}
+use Rattle.descriptor.specs.Full.{identifier_read}
 use Rattle.descriptor.specs.declared.DescriptorRead.{DescriptorRead}
-use Rattle.descriptor_loop.specs.Items.{short, withoutIdentifier, item_at, readAt, completeAt, step_of, Listed, listed, items_of}
+use Rattle.descriptor_loop.specs.Items.{short, without_identifier, item_at, read_at, complete_at, step_of, Listed, listed, items_of}
 use Rattle.descriptor_loop.specs.declared.Step.{Step}
-use Rattle.descriptor_loop.proofs.Lists.{rest, rest_end, rest_more, items-rest, from-any}
-use Rattle.descriptor_loop.proofs.Steps.{step_small, step-complete, Turn, ends, goes, Stands, turn, forward, within}
-use Rattle.relabel_loop.specs.Loop.{movedStep, movedListed, behindItem, withItem, Piece, OthersStay}
-use Rattle.relabel_loop.proofs.Moves.{listed-twice, map-twice, step-moved, items-moved}
+use Rattle.descriptor_loop.proofs.Lists.{rest, rest_end, rest_more, items_rest, from_any}
+use Rattle.descriptor_loop.proofs.Steps.{step_small, step_complete, Turn, ends, goes, Stands, turn, forward, within}
+use Rattle.relabel_loop.specs.Loop.{moved_step, moved_listed, behind_item, with_item, Piece, OthersStay}
+use Rattle.relabel_loop.proofs.Moves.{listed_twice, map_twice, step_moved, items_moved}
 
 -- ---- the step over a piece
 
@@ -28,54 +28,54 @@ module _ (tag : ℕ) (body : List ℕ) (right : length body ≤ 254) where
   abbrev complete : Step
   complete =
       record {
-        item = item_at 6 (descriptorOf tag (take 4 body) (drop 4 body));
-        identifier = identifierRead (descriptorOf tag (take 4 body) (drop 4 body)) (take 4 body);
+        item = item_at 6 (descriptor_of tag (take 4 body) (drop 4 body));
+        identifier = identifier_read (descriptor_of tag (take 4 body) (drop 4 body)) (take 4 body);
         next = 0 + (length body + 2);
       }
 
-  complete-piece : (s : List ℕ) → 4 ≤ length body → completeAt (piece s) 0 (length body) ≡ complete
-  unfolding completeAt readAt
-  complete-piece s h =
+  complete_piece : (s : List ℕ) → 4 ≤ length body → complete_at (piece s) 0 (length body) ≡ complete
+  unfolding complete_at read_at
+  complete_piece s h =
       let id : take 4 (body ++ s) ≡ take 4 body = take-append-le 4 body s h in
       let load : take (length body - 4) (drop 4 (body ++ s)) ≡ drop 4 body =
       ap (take (length body - 4)) (drop-append-le 4 body s h) ∙ take_at (drop 4 body) s (length body - 4) (length-drop 4 body) in
-      ap₂ (λ (i p : List ℕ). record { item = item_at 6 (descriptorOf tag i p); identifier = identifierRead (descriptorOf tag i p) i; next = 0 + (length body + 2) }) id load
+      ap₂ (λ (i p : List ℕ). record { item = item_at 6 (descriptor_of tag i p); identifier = identifier_read (descriptor_of tag i p) i; next = 0 + (length body + 2) }) id load
 
   module _ (s : List ℕ) (fits : length (piece s) ≤ 4076) (six : 6 ≤ length body + 2 + length s) where
     size : length (piece s) ≡ 2 + (length body + length s)
     size = omega (arith, length-append body s)
 
-    pub step-of-small : length body < 4 → step_of (piece s) 0 ≡ withoutIdentifier (short 6 (length body + 2)) (0 + (length body + 2))
-    step-of-small h = step_small (piece s) 0 fits (omega arith) (length body) refl (omega (arith, size)) (omega (arith, size)) right h
+    pub step_of_small : length body < 4 → step_of (piece s) 0 ≡ without_identifier (short 6 (length body + 2)) (0 + (length body + 2))
+    step_of_small h = step_small (piece s) 0 fits (omega arith) (length body) refl (omega (arith, size)) (omega (arith, size)) right h
 
-    pub step-of-complete : 4 ≤ length body → step_of (piece s) 0 ≡ complete
-    step-of-complete h = step-complete (piece s) 0 fits (omega arith) (length body) refl (omega (arith, size)) (omega (arith, size)) right h ∙ complete-piece s h
+    pub step_of_complete : 4 ≤ length body → step_of (piece s) 0 ≡ complete
+    step_of_complete h = step_complete (piece s) 0 fits (omega arith) (length body) refl (omega (arith, size)) (omega (arith, size)) right h ∙ complete_piece s h
 
-  pub step-piece : (s t : List ℕ) → length (piece s) ≤ 4076 → length (piece t) ≤ 4076 → 6 ≤ length body + 2 + length s → 6 ≤ length body + 2 + length t
+  pub step_piece : (s t : List ℕ) → length (piece s) ≤ 4076 → length (piece t) ≤ 4076 → 6 ≤ length body + 2 + length s → 6 ≤ length body + 2 + length t
       → step_of (piece s) 0 ≡ step_of (piece t) 0
-  step-piece s t fs ft ss st =
+  step_piece s t fs ft ss st =
       by_cases (length body) 4
-      (λ h. step-of-small s fs ss h ∙ sym (step-of-small t ft st h))
-      (λ h. step-of-complete s fs ss h ∙ sym (step-of-complete t ft st h))
+      (λ h. step_of_small s fs ss h ∙ sym (step_of_small t ft st h))
+      (λ h. step_of_complete s fs ss h ∙ sym (step_of_complete t ft st h))
 
 -- ---- the first item, and those after it
 
 module _ (loop : List ℕ) (fits : length loop ≤ 4076) where
-  rest-moved : (o : ℕ) → o ≤ length loop → rest loop fits o ≡ map (movedListed o) (items_of (drop o loop))
-  rest-moved o h =
+  rest_moved : (o : ℕ) → o ≤ length loop → rest loop fits o ≡ map (moved_listed o) (items_of (drop o loop))
+  rest_moved o h =
       let e : take o loop ++ drop o loop ≡ loop = take-append-drop o loop in
       let l : length (take o loop) ≡ o = length-take-le o loop h in
       let f : length (take o loop ++ drop o loop) ≤ 4076 = rw e fits in
-      let m : rest (take o loop ++ drop o loop) f (length (take o loop)) ≡ map (movedListed (length (take o loop))) (items_of (drop o loop)) = items-moved (take o loop) (drop o loop) f in
+      let m : rest (take o loop ++ drop o loop) f (length (take o loop)) ≡ map (moved_listed (length (take o loop))) (items_of (drop o loop)) = items_moved (take o loop) (drop o loop) f in
       rw (e, l) at m
 
-  pub items-first : 0 < length loop → items_of loop ≡ listed loop 0 ∷ map (movedListed (step_of loop 0).next) (items_of (drop (step_of loop 0).next loop))
-  items-first some =
-      items-rest loop fits ∙ rest_more loop fits 0 some
-      ∙ ap (λ (xs : List Listed). listed loop 0 ∷ xs) (rest-moved (step_of loop 0).next (within (turn loop 0 fits some)))
+  pub items_first : 0 < length loop → items_of loop ≡ listed loop 0 ∷ map (moved_listed (step_of loop 0).next) (items_of (drop (step_of loop 0).next loop))
+  items_first some =
+      items_rest loop fits ∙ rest_more loop fits 0 some
+      ∙ ap (λ (xs : List Listed). listed loop 0 ∷ xs) (rest_moved (step_of loop 0).next (within (turn loop 0 fits some)))
 
-  pub items-empty : length loop ≤ 0 → items_of loop ≡ []
-  items-empty h = items-rest loop fits ∙ rest_end loop fits 0 h
+  pub items_empty : length loop ≤ 0 → items_of loop ≡ []
+  items_empty h = items_rest loop fits ∙ rest_end loop fits 0 h
 
 -- a piece in front of a loop
 module _ (d s : List ℕ) (w : Piece d) (fits : length (d ++ s) ≤ 4076) where
@@ -85,33 +85,33 @@ module _ (d s : List ℕ) (w : Piece d) (fits : length (d ++ s) ≤ 4076) where
   alone : d ≡ piece w.tag w.body w.short []
   alone = w.is ∙ ap (λ (l : List ℕ). w.tag ∷ (length w.body ∷ l)) (sym (append-nil w.body))
 
-  piece-size : length d ≡ length w.body + 2
-  piece-size = omega (arith, ap length w.is)
+  piece_size : length d ≡ length w.body + 2
+  piece_size = omega (arith, ap length w.is)
 
-  opened-fits : length (piece w.tag w.body w.short s) ≤ 4076
-  opened-fits = subst (λ (l : List ℕ). length l ≤ 4076) opened fits
+  opened_fits : length (piece w.tag w.body w.short s) ≤ 4076
+  opened_fits = subst (λ (l : List ℕ). length l ≤ 4076) opened fits
 
-  step-first : step_of (d ++ s) 0 ≡ complete w.tag w.body w.short
-  step-first = ap (λ (l : List ℕ). step_of l 0) opened ∙ step-of-complete w.tag w.body w.short s opened-fits (omega (arith, w.named)) w.named
+  step_first : step_of (d ++ s) 0 ≡ complete w.tag w.body w.short
+  step_first = ap (λ (l : List ℕ). step_of l 0) opened ∙ step_of_complete w.tag w.body w.short s opened_fits (omega (arith, w.named)) w.named
 
-  step-alone : step_of d 0 ≡ complete w.tag w.body w.short
-  step-alone =
+  step_alone : step_of d 0 ≡ complete w.tag w.body w.short
+  step_alone =
       let f : length (piece w.tag w.body w.short []) ≤ 4076 = subst (λ (l : List ℕ). length l ≤ 4076) alone (omega (arith, length-append d s)) in
-      ap (λ (l : List ℕ). step_of l 0) alone ∙ step-of-complete w.tag w.body w.short [] f (omega (arith, w.named)) w.named
+      ap (λ (l : List ℕ). step_of l 0) alone ∙ step_of_complete w.tag w.body w.short [] f (omega (arith, w.named)) w.named
 
-  next-is : (step_of (d ++ s) 0).next ≡ length d
-  next-is = ap (λ (x : Step). x.next) step-first ∙ omega (arith, piece-size)
+  next_is : (step_of (d ++ s) 0).next ≡ length d
+  next_is = ap (λ (x : Step). x.next) step_first ∙ omega (arith, piece_size)
 
-  pub items-piece : items_of (d ++ s) ≡ listed d 0 ∷ map (movedListed (length d)) (items_of s)
-  items-piece =
-      items-first (d ++ s) fits (omega (arith, length-append d s, piece-size))
-      ∙ ap₂ (λ (x : Step) (xs : List Listed). record { offset = 0; used = x.next - 0; step = x } ∷ xs) (step-first ∙ sym step-alone)
-      (ap (λ (k : ℕ). map (movedListed k) (items_of (drop k (d ++ s)))) next-is
-      ∙ ap (λ (l : List ℕ). map (movedListed (length d)) (items_of l)) (drop-append_seam d s))
+  pub items_piece : items_of (d ++ s) ≡ listed d 0 ∷ map (moved_listed (length d)) (items_of s)
+  items_piece =
+      items_first (d ++ s) fits (omega (arith, length-append d s, piece_size))
+      ∙ ap₂ (λ (x : Step) (xs : List Listed). record { offset = 0; used = x.next - 0; step = x } ∷ xs) (step_first ∙ sym step_alone)
+      (ap (λ (k : ℕ). map (moved_listed k) (items_of (drop k (d ++ s)))) next_is
+      ∙ ap (λ (l : List ℕ). map (moved_listed (length d)) (items_of l)) (drop-append_seam d s))
 
 -- nothing before it: nothing moves
-pub still : (d : List ℕ) → length d ≤ 4076 → listed d 0 ≡ movedListed 0 (listed d 0)
+pub still : (d : List ℕ) → length d ≤ 4076 → listed d 0 ≡ moved_listed 0 (listed d 0)
 still d fits =
     let u : 0 + (step_of d 0).next - 0 ≡ (step_of d 0).next - 0 = omega arith in
-    let e : step_of d 0 ≡ movedStep 0 (step_of d 0) = step-moved [] d fits 0 in
+    let e : step_of d 0 ≡ moved_step 0 (step_of d 0) = step_moved [] d fits 0 in
     ap (λ (x : Step). record { offset = 0; used = (step_of d 0).next - 0; step = x }) e

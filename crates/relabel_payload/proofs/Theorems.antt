@@ -3,7 +3,7 @@ use Prim.Native.Nat.{ℕ, ◌<◌}
 use mathlib.Core.List.{List}
 use mathlib.Core.Path.{◌≡◌}
 use lib.ListN.{get_or}
-use Rattle.descriptor.specs.Descriptor.{segmentationOf}
+use Rattle.descriptor.specs.Descriptor.{segmentation_of}
 use Rattle.descriptor.specs.declared.Descriptor.TheVariants.{Segmentation}
 use Rattle.descriptor.specs.declared.DescriptorRead.TheVariants.{Is}
 use Rattle.descriptor.specs.declared.segmentation.SegmentationDescriptor.{SegmentationDescriptor}
@@ -14,6 +14,6 @@ use Rattle.relabel_payload.proofs.Payloads as payloads
 
 -- A payload that reads as a segmentation descriptor, not cancelled, is what stands before its UPID, the UPID, and what stands after it; with any other UPID that is
 -- accepted in its place, and its length in its head, it reads the same but for the UPID. Reserved bits and spare bytes may be any.
-pub of-the-payload-only-the-upid-differs : (s : List ℕ) (x : SegmentationDescriptor) (i : SegmentationDetail) → ((k : ℕ) → get_or s k 0 < 256)
-    → segmentationOf s ≡ Is (Segmentation x) → x.descriptor_detail ≡ Active i → Holed s x.segmentation_event_id i
-of-the-payload-only-the-upid-differs = payloads.holed
+pub of_the_payload_only_the_upid_differs : (s : List ℕ) (x : SegmentationDescriptor) (i : SegmentationDetail) → ((k : ℕ) → get_or s k 0 < 256)
+    → segmentation_of s ≡ Is (Segmentation x) → x.descriptor_detail ≡ Active i → Holed s x.segmentation_event_id i
+of_the_payload_only_the_upid_differs = payloads.holed

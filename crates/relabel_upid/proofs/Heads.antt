@@ -19,9 +19,9 @@ use Rattle.upid.specs.declared.Part.{Part}
 use Rattle.upid.specs.declared.UpidRead.{UpidRead}
 use Rattle.upid.specs.declared.Refusal.{Refusal}
 use Rattle.upid.specs.declared.UpidRead.TheVariants.{Fine, Refused}
-use Rattle.upid.proofs.Laws.{read_one, read_more, list-nil, list-more, then-both, accepted-mid, list-mid, list-plain, by_cases}
-use Rattle.upid.specs.Upid.{blankPart}
-use Rattle.relabel_upid.specs.Private.{heads, nth, nextHead, Walkable, Headed}
+use Rattle.upid.proofs.Laws.{read_one, read_more, list_nil, list_more, then_both, accepted_mid, list_mid, list_plain, by_cases}
+use Rattle.upid.specs.Upid.{blank_part}
+use Rattle.relabel_upid.specs.Private.{heads, nth, next_head, Walkable, Headed}
 
 -- the bytes from the place `at` on have the heads of these parts, one behind the other or inside it
 pub data Rest : ℕ → List ℕ → List Part → Type 0 where
@@ -40,7 +40,7 @@ fits false l n r y e a = (ltb-false n l e, a)
 none_more : (level start : ℕ) (b : List ℕ) (qs : List Part) → Rest (start + 0) b qs → Rest start b (list_of 13 level start [] ++ qs)
 none_more level start b qs r =
     let e : start + 0 ≡ start = omega arith in
-    same e refl (ap (λ (x : List Part). x ++ qs) (sym (list-nil level start))) r
+    same e refl (ap (λ (x : List Part). x ++ qs) (sym (list_nil level start))) r
 
 joined : (n level start : ℕ) (a b : List ℕ) (qs : List Part) → length a ≤ n → Accepted (read_of 13 start a) → Rest (start + length a) b qs
     → Rest start (a ++ b) (list_of 13 level start a ++ qs)
@@ -50,12 +50,12 @@ joined (suc n) level start [] b qs h acc r = none_more level start b qs r
 joined (suc n) level start (k ∷ []) b qs h acc r = absurd (rw (read_one start k) at acc)
 joined (suc n) level start (k ∷ (l ∷ rest)) b qs h acc r =
     let w = fits (ltb (length rest) l) l (length rest) _ _ refl (rw (read_more start k l rest) at acc) in
-    let both = then-both (read_of k (start + 2) (take l rest)) (read_of 13 (start + (2 + l)) (drop l rest)) w.1 in
+    let both = then_both (read_of k (start + 2) (take l rest)) (read_of 13 (start + (2 + l)) (drop l rest)) w.1 in
     let B : List Part = list_of 13 level (start + (2 + l)) (drop l rest) in
     let e : start + length (k ∷ (l ∷ rest)) ≡ start + (2 + l) + length (drop l rest) = omega (arith, length-drop l rest, w.0) in
     let after : Rest (start + (2 + l)) (drop l rest ++ b) (B ++ qs) =
     joined n level (start + (2 + l)) (drop l rest) b qs (omega (arith, length-drop l rest)) both.1 (same e refl refl r) in
-    same refl refl (ap (λ (x : List Part). x ++ qs) (sym (list-more level start k l rest)))
+    same refl refl (ap (λ (x : List Part). x ++ qs) (sym (list_more level start k l rest)))
     (part refl refl (omega (arith, length-append rest b, w.0)) (go (eqb k 13) refl
     (λ a x. joined n (level + 1) (start + 2) (take l rest) (drop l rest ++ b) (B ++ qs) (omega (arith, length-take l rest)) a x)
     w.0 both.0 after))
@@ -71,15 +71,15 @@ joined (suc n) level start (k ∷ (l ∷ rest)) b qs h acc r =
         let k13 : k ≡ 13 = eqb-true k 13 e in
         let B : List Part = list_of 13 level (start + (2 + l)) (drop l rest) in
         let z : start + (2 + l) ≡ start + 2 + length (take l rest) = omega (arith, length-take l rest) in
-        let x = inner (accepted-mid k (start + 2) (take l rest) k13 a) (same z refl refl after) in
+        let x = inner (accepted_mid k (start + 2) (take l rest) k13 a) (same z refl refl after) in
         same refl
         (sym (append_assoc (take l rest) (drop l rest) b) ∙ ap (λ (y : List ℕ). y ++ b) (take-append-drop l rest))
-        (sym (append_assoc (list_of 13 (level + 1) (start + 2) (take l rest)) B qs) ∙ ap (λ (y : List Part). (y ++ B) ++ qs) (sym (list-mid k (level + 1) (start + 2) (take l rest) k13)))
+        (sym (append_assoc (list_of 13 (level + 1) (start + 2) (take l rest)) B qs) ∙ ap (λ (y : List Part). (y ++ B) ++ qs) (sym (list_mid k (level + 1) (start + 2) (take l rest) k13)))
         x
     go false e inner f a after =
         let B : List Part = list_of 13 level (start + (2 + l)) (drop l rest) in
         let z : start + (2 + l) ≡ start + 2 + l = omega arith in
-        same z (sym (drop-append-le l rest b f)) (ap (λ (y : List Part). (y ++ B) ++ qs) (sym (list-plain k (level + 1) (start + 2) (take l rest) (eqb-false k 13 e)))) after
+        same z (sym (drop-append-le l rest b f)) (ap (λ (y : List Part). (y ++ B) ++ qs) (sym (list_plain k (level + 1) (start + 2) (take l rest) (eqb-false k 13 e)))) after
 
 -- ---- a walk over the heads of s
 pub first : (s : List ℕ) → Walkable s → Rest 0 (drop 0 s) (heads s)
@@ -97,7 +97,7 @@ pub record Turn (s : List ℕ) (at : ℕ) (ps : List Part) : Type 0 where
   pub starts : q.start ≡ at + 2
   pub has : q.len ≡ get_or s (at + 1) 0
   pub inside : at + 2 + get_or s (at + 1) 0 ≤ length s
-  pub rest : Rest (nextHead s at) (drop (nextHead s at) s) qs
+  pub rest : Rest (next_head s at) (drop (next_head s at) s) qs
 
 module _ (s : List ℕ) (at : ℕ) where
   pub turn : (ps : List Part) → Rest at (drop at s) ps → at < length s → Turn s at ps
@@ -121,7 +121,7 @@ module _ (s : List ℕ) (at : ℕ) where
           }
         where
           on : (k l : ℕ) (rest : List ℕ) → get_or s at 0 ≡ k → get_or s (at + 1) 0 ≡ l → drop (at + 2) s ≡ rest → (t : Bool) → eqb k 13 ≡ t → {qs : List Part}
-              → Rest (pick (eqb k 13) (at + 2) (at + 2 + l)) (pick (eqb k 13) rest (drop l rest)) qs → Rest (nextHead s at) (drop (nextHead s at) s) qs
+              → Rest (pick (eqb k 13) (at + 2) (at + 2 + l)) (pick (eqb k 13) rest (drop l rest)) qs → Rest (next_head s at) (drop (next_head s at) s) qs
           on k l rest ek el er true e x = rw (ek, el, e) (same refl (sym er) refl (rw e at x))
           on k l rest ek el er false e x = rw (ek, el, e) (same refl (ap (drop l) (sym er) ∙ drop-drop l (at + 2) s) refl (rw e at x))
 
@@ -133,17 +133,17 @@ module _ (s : List ℕ) (at : ℕ) where
       go (k ∷ b) ps e r = absurd (omega (arith, ap length e))
 
 -- ---- the next head
-pub next-mid : (s : List ℕ) (at : ℕ) → get_or s at 0 ≡ 13 → at + 2 ≡ nextHead s at
-next-mid s at e = rw (eq-eqb (get_or s at 0) 13 e)
+pub next_mid : (s : List ℕ) (at : ℕ) → get_or s at 0 ≡ 13 → at + 2 ≡ next_head s at
+next_mid s at e = rw (eq-eqb (get_or s at 0) 13 e)
 
-pub next-plain : (s : List ℕ) (at l : ℕ) → (get_or s at 0 ≡ 13 → ⊥) → l ≡ get_or s (at + 1) 0 → at + 2 + l ≡ nextHead s at
-next-plain s at l e f = rw (ne_eqb (get_or s at 0) 13 e, f)
+pub next_plain : (s : List ℕ) (at l : ℕ) → (get_or s at 0 ≡ 13 → ⊥) → l ≡ get_or s (at + 1) 0 → at + 2 + l ≡ next_head s at
+next_plain s at l e f = rw (ne_eqb (get_or s at 0) 13 e, f)
 
 -- ---- the walk, with so many parts ahead of the i-th
 
-next-bounds : (t : Bool) (at l : ℕ) → (at + 2 ≤ pick t (at + 2) (at + 2 + l)) × (pick t (at + 2) (at + 2 + l) ≤ at + 2 + l)
-next-bounds true at l = (omega arith, omega arith)
-next-bounds false at l = (omega arith, omega arith)
+next_bounds : (t : Bool) (at l : ℕ) → (at + 2 ≤ pick t (at + 2) (at + 2 + l)) × (pick t (at + 2) (at + 2 + l) ≤ at + 2 + l)
+next_bounds true at l = (omega arith, omega arith)
+next_bounds false at l = (omega arith, omega arith)
 
 module _ (s : List ℕ) (i ahead at : ℕ) (few : ahead ≤ i) (r : Rest at (drop at s) (drop (i - ahead) (heads s))) where
   pub none_left : length s ≤ at → Headed s i at
@@ -162,18 +162,18 @@ module _ (s : List ℕ) (i ahead at : ℕ) (few : ahead ≤ i) (r : Rest at (dro
     abbrev here : Turn s at (drop (i - ahead) (heads s))
     here = turn s at _ r h
 
-    pub complete : (at + 2 + get_or s (at + 1) 0 ≤ length s) × (at + 2 ≤ nextHead s at) × (nextHead s at ≤ at + 2 + get_or s (at + 1) 0)
-    complete = let n = next-bounds (eqb (get_or s at 0) 13) at (get_or s (at + 1) 0) in (here.inside, n.0, n.1)
+    pub complete : (at + 2 + get_or s (at + 1) 0 ≤ length s) × (at + 2 ≤ next_head s at) × (next_head s at ≤ at + 2 + get_or s (at + 1) 0)
+    complete = let n = next_bounds (eqb (get_or s at 0) 13) at (get_or s (at + 1) 0) in (here.inside, n.0, n.1)
 
-    pub one-is : nth s (i - ahead) ≡ here.q
-    one-is =
+    pub one_is : nth s (i - ahead) ≡ here.q
+    one_is =
         let z : i - ahead ≡ i - ahead + 0 = omega arith in
-        ap (λ (j : ℕ). get_or (heads s) j blankPart) z ∙ sym (get_or-drop (i - ahead) (heads s) 0 blankPart) ∙ ap (λ (ps : List Part). get_or ps 0 blankPart) here.is
+        ap (λ (j : ℕ). get_or (heads s) j blank_part) z ∙ sym (get_or-drop (i - ahead) (heads s) 0 blank_part) ∙ ap (λ (ps : List Part). get_or ps 0 blank_part) here.is
 
     pub told : ((nth s (i - ahead)).start ≡ at + 2) × ((nth s (i - ahead)).len ≡ get_or s (at + 1) 0) × (i - ahead < length (heads s))
     told = (
-      ap (λ (q : Part). q.start) one-is ∙ here.starts,
-      ap (λ (q : Part). q.len) one-is ∙ here.has,
+      ap (λ (q : Part). q.start) one_is ∙ here.starts,
+      ap (λ (q : Part). q.len) one_is ∙ here.has,
       omega (arith, length-drop (i - ahead) (heads s), ap length here.is),
     )
 
@@ -186,7 +186,7 @@ module _ (s : List ℕ) (i ahead at : ℕ) (few : ahead ≤ i) (r : Rest at (dro
           some = λ l. (t.2, t.0, t.1);
         }
 
-    pub onward : (m : ℕ) → m ≡ nextHead s at → 0 < ahead → Rest m (drop m s) (drop (i - (ahead - 1)) (heads s))
+    pub onward : (m : ℕ) → m ≡ next_head s at → 0 < ahead → Rest m (drop m s) (drop (i - (ahead - 1)) (heads s))
     onward m e some =
         let z : i - ahead + 1 ≡ i - (ahead - 1) = omega arith in
         let f : here.qs ≡ drop (i - (ahead - 1)) (heads s) =

@@ -9,25 +9,25 @@ use lib.Seq.{take-append_seam, drop-append_seam}
 use lib.Dec.{eqb}
 use borrow.Author.Tests.{lt-ltb, le-ltb, eqb-true, eqb-false}
 use Rattle.upid.specs.Cover.{Cut}
-use Rattle.upid.specs.Upid.{read_of, list_of, reportedOf}
+use Rattle.upid.specs.Upid.{read_of, list_of, reported_of}
 use Rattle.upid.specs.Private.{Accepted}
 use Rattle.upid.specs.declared.Part.{Part}
-use Rattle.upid.proofs.Answers.{then-all, anywhere}
-use Rattle.upid.proofs.Laws.{read_one, read_more, list-nil, list-more, list-plain, accepted-mid, then-both, by_cases}
+use Rattle.upid.proofs.Answers.{then_all, anywhere}
+use Rattle.upid.proofs.Laws.{read_one, read_more, list_nil, list_more, list_plain, accepted_mid, then_both, by_cases}
 use Rattle.relabel_upid.specs.Hole.{Hole, here, inside, past, headed, filled}
 
 -- a piece that is accepted, in front of what is accepted
-accepted-headed : (start : ℕ) (c : Cut) (rest : List ℕ) → Accepted (read_of c.upid_type 0 c.payload) → Accepted (read_of 13 0 rest) → Accepted (read_of 13 start (headed c rest))
-accepted-headed start c rest ha hb =
+accepted_headed : (start : ℕ) (c : Cut) (rest : List ℕ) → Accepted (read_of c.upid_type 0 c.payload) → Accepted (read_of 13 0 rest) → Accepted (read_of 13 start (headed c rest))
+accepted_headed start c rest ha hb =
     let n : length c.payload ≤ length (c.payload ++ rest) = omega (arith, length-append c.payload rest) in
     rw (read_more, le-ltb _ _ n, take-append_seam, drop-append_seam)
-    (then-all _ _ (anywhere c.upid_type 0 (start + 2) c.payload ha) (anywhere 13 0 (start + (2 + length c.payload)) rest hb))
+    (then_all _ _ (anywhere c.upid_type 0 (start + 2) c.payload ha) (anywhere 13 0 (start + (2 + length c.payload)) rest hb))
 
 -- where the hole is: its level, and the place of its head in the top UPID
-abbrev pub levelAt : ℕ → Hole → ℕ
-levelAt level (here a) = level
-levelAt level (inside h a) = levelAt (level + 1) h
-levelAt level (past d h) = levelAt level h
+abbrev pub level_at : ℕ → Hole → ℕ
+level_at level (here a) = level
+level_at level (inside h a) = level_at (level + 1) h
+level_at level (past d h) = level_at level h
 
 abbrev pub start_at : ℕ → Hole → ℕ
 start_at start (here a) = start
@@ -36,7 +36,7 @@ start_at start (past d h) = start_at (start + (2 + length d.payload)) h
 
 -- the part of a piece whose head is at `start`, and those inside it
 abbrev pub recorded : ℕ → ℕ → Cut → Part
-recorded level start c = record { upid_type = reportedOf c.upid_type; level = level; start = start + 2; len = length c.payload }
+recorded level start c = record { upid_type = reported_of c.upid_type; level = level; start = start + 2; len = length c.payload }
 
 abbrev pub inner : ℕ → ℕ → Cut → List Part
 inner level start c = list_of c.upid_type (level + 1) (start + 2) c.payload
@@ -53,14 +53,14 @@ behind c level start (inside h a) = behind c (level + 1) (start + 2) h ++ list_o
 behind c level start (past d h) = behind c level (start + (2 + length d.payload)) h
 
 -- the parts of a filled hole
-pub list-filled : (c : Cut) (level start : ℕ) (h : Hole) → list_of 13 level start (filled h c) ≡
-    before c level start h ++ (recorded (levelAt level h) (start_at start h) c ∷ (inner (levelAt level h) (start_at start h) c ++ behind c level start h))
+pub list_filled : (c : Cut) (level start : ℕ) (h : Hole) → list_of 13 level start (filled h c) ≡
+    before c level start h ++ (recorded (level_at level h) (start_at start h) c ∷ (inner (level_at level h) (start_at start h) c ++ behind c level start h))
 unfolding filled
-list-filled c level start (here a) = rw (list-more, take-append_seam, drop-append_seam)
-list-filled c level start (inside h a) =
-    rw (list-more, take-append_seam, drop-append_seam, list-filled c (level + 1) (start + 2) h) (simp append_assoc)
-list-filled c level start (past d h) =
-    rw (list-more, take-append_seam, drop-append_seam, list-filled c level (start + (2 + length d.payload)) h) (simp append_assoc)
+list_filled c level start (here a) = rw (list_more, take-append_seam, drop-append_seam)
+list_filled c level start (inside h a) =
+    rw (list_more, take-append_seam, drop-append_seam, list_filled c (level + 1) (start + 2) h) (simp append_assoc)
+list_filled c level start (past d h) =
+    rw (list_more, take-append_seam, drop-append_seam, list_filled c level (start + (2 + length d.payload)) h) (simp append_assoc)
 
 -- ---- what is accepted
 
@@ -73,11 +73,11 @@ AcceptedBeside (past d h) = Accepted (read_of d.upid_type 0 d.payload) × Accept
 abbrev pub AcceptedCut : Cut → Type 0
 AcceptedCut c = Accepted (read_of c.upid_type 0 c.payload)
 
-pub accepted-filled : (h : Hole) (c : Cut) (start : ℕ) → AcceptedBeside h → AcceptedCut c → Accepted (read_of 13 start (filled h c))
+pub accepted_filled : (h : Hole) (c : Cut) (start : ℕ) → AcceptedBeside h → AcceptedCut c → Accepted (read_of 13 start (filled h c))
 unfolding filled
-accepted-filled (here a) c start f g = accepted-headed start c a g f
-accepted-filled (inside h a) c start f g = accepted-headed start _ a (accepted-filled h c 0 f.0 g) f.1
-accepted-filled (past d h) c start f g = accepted-headed start d _ f.0 (accepted-filled h c 0 f.1 g)
+accepted_filled (here a) c start f g = accepted_headed start c a g f
+accepted_filled (inside h a) c start f g = accepted_headed start _ a (accepted_filled h c 0 f.0 g) f.1
+accepted_filled (past d h) c start f g = accepted_headed start d _ f.0 (accepted_filled h c 0 f.1 g)
 
 -- ---- every part of what is accepted fills a hole
 
@@ -90,14 +90,14 @@ pub record Found (level start i : ℕ) (s : List ℕ) : Type 0 where
   pub accepted : AcceptedBeside hole
   pub own : AcceptedCut part
 
-found-more : (level start i : ℕ) (d : Cut) (r : List ℕ) → AcceptedCut d → Accepted (read_of 13 0 r) → i < length (list_of 13 level start (headed d r))
+found_more : (level start i : ℕ) (d : Cut) (r : List ℕ) → AcceptedCut d → Accepted (read_of 13 0 r) → i < length (list_of 13 level start (headed d r))
     → ((j : ℕ) → d.upid_type ≡ 13 → j < length (list_of 13 (level + 1) (start + 2) d.payload) → Found (level + 1) (start + 2) j d.payload)
     → ((j : ℕ) → j < length (list_of 13 level (start + (2 + length d.payload)) r) → Found level (start + (2 + length d.payload)) j r)
     → Found level start i (headed d r)
 unfolding filled
-found-more level start zero d r fd fr hi within after =
+found_more level start zero d r fd fr hi within after =
     record { hole = here r; part = d; is = refl; count = refl; accepted = fr; own = fd }
-found-more level start (suc j) d r fd fr hi within after =
+found_more level start (suc j) d r fd fr hi within after =
     by_cases j (length (inner level start d))
     (λ less. go less (eqb d.upid_type 13) refl)
     (λ more.
@@ -112,7 +112,7 @@ found-more level start (suc j) d r fd fr hi within after =
     })
   where
     size : length (list_of 13 level start (headed d r)) ≡ suc (length (inner level start d) + length (list_of 13 level (start + (2 + length d.payload)) r))
-    size = rw (list-more, take-append_seam, drop-append_seam) (ap suc (length-append (inner level start d) (list_of 13 level (start + (2 + length d.payload)) r)))
+    size = rw (list_more, take-append_seam, drop-append_seam) (ap suc (length-append (inner level start d) (list_of 13 level (start + (2 + length d.payload)) r)))
 
     go : j < length (inner level start d) → (t : Bool) → eqb d.upid_type 13 ≡ t → Found level start (suc j) (headed d r)
     go less true e =
@@ -127,54 +127,54 @@ found-more level start (suc j) d r fd fr hi within after =
           accepted = (f.accepted, fr);
           own = f.own;
         }
-    go less false e = absurd (omega (arith, ap length (list-plain d.upid_type (level + 1) (start + 2) d.payload (eqb-false _ _ e))))
+    go less false e = absurd (omega (arith, ap length (list_plain d.upid_type (level + 1) (start + 2) d.payload (eqb-false _ _ e))))
 
 -- the part that a head announces, and what follows it
 unfoldable pub first : ℕ → ℕ → List ℕ → Cut
 first k l rest = record { upid_type = k; payload = take l rest }
 
-pub first-headed : (k l : ℕ) (rest : List ℕ) → l ≤ length rest → headed (first k l rest) (drop l rest) ≡ k ∷ (l ∷ rest)
+pub first_headed : (k l : ℕ) (rest : List ℕ) → l ≤ length rest → headed (first k l rest) (drop l rest) ≡ k ∷ (l ∷ rest)
 unfolding first
-first-headed k l rest h =
+first_headed k l rest h =
     let m : length (take l rest) ≡ l = omega (arith, length-take l rest) in
     rw (m, take-append-drop)
 
 pub both : (start k l : ℕ) (rest : List ℕ) → l ≤ length rest → Accepted (read_of 13 start (k ∷ (l ∷ rest))) → AcceptedCut (first k l rest) × Accepted (read_of 13 0 (drop l rest))
 unfolding first
 both start k l rest present a =
-    let b = then-both (read_of k (start + 2) (take l rest)) (read_of 13 (start + (2 + l)) (drop l rest)) (rw (read_more start k l rest, le-ltb _ _ present) at a) in
+    let b = then_both (read_of k (start + 2) (take l rest)) (read_of 13 (start + (2 + l)) (drop l rest)) (rw (read_more start k l rest, le-ltb _ _ present) at a) in
     (anywhere _ _ 0 _ b.0, anywhere _ _ 0 _ b.1)
 
 Finds : ℕ → Type 0
 Finds n = (level start i : ℕ) (s : List ℕ) → length s ≤ n → Accepted (read_of 13 0 s) → i < length (list_of 13 level start s) → Found level start i s
 
-find-more : (n level start i : ℕ) (d : Cut) (r : List ℕ) → Finds n → length d.payload ≤ n → length r ≤ n → AcceptedCut d → Accepted (read_of 13 0 r)
+find_more : (n level start i : ℕ) (d : Cut) (r : List ℕ) → Finds n → length d.payload ≤ n → length r ≤ n → AcceptedCut d → Accepted (read_of 13 0 r)
     → i < length (list_of 13 level start (headed d r)) → Found level start i (headed d r)
 unfolding Finds
-find-more n level start i d r again hd hr fd fr hi =
-    found-more level start i d r fd fr hi
-    (λ j k13 hj. again (level + 1) (start + 2) j d.payload hd (accepted-mid d.upid_type 0 d.payload k13 fd) hj)
+find_more n level start i d r again hd hr fd fr hi =
+    found_more level start i d r fd fr hi
+    (λ j k13 hj. again (level + 1) (start + 2) j d.payload hd (accepted_mid d.upid_type 0 d.payload k13 fd) hj)
     (λ j hj. again level (start + (2 + length d.payload)) j r hr fr hj)
 
-find-turn : (n level start i k l : ℕ) (rest : List ℕ) → Finds n → length rest ≤ n → l ≤ length rest → Accepted (read_of 13 0 (k ∷ (l ∷ rest)))
+find_turn : (n level start i k l : ℕ) (rest : List ℕ) → Finds n → length rest ≤ n → l ≤ length rest → Accepted (read_of 13 0 (k ∷ (l ∷ rest)))
     → i < length (list_of 13 level start (k ∷ (l ∷ rest))) → Found level start i (k ∷ (l ∷ rest))
 unfolding first
-find-turn n level start i k l rest again hn present a hi =
+find_turn n level start i k l rest again hn present a hi =
     let b = both 0 k l rest present a in
-    subst (Found level start i) (first-headed k l rest present)
-    (find-more n level start i (first k l rest) (drop l rest) again (omega (arith, length-take l rest)) (omega (arith, length-drop l rest)) b.0 b.1
-    (subst (λ (s : List ℕ). i < length (list_of 13 level start s)) (sym (first-headed k l rest present)) hi))
+    subst (Found level start i) (first_headed k l rest present)
+    (find_more n level start i (first k l rest) (drop l rest) again (omega (arith, length-take l rest)) (omega (arith, length-drop l rest)) b.0 b.1
+    (subst (λ (s : List ℕ). i < length (list_of 13 level start s)) (sym (first_headed k l rest present)) hi))
 
 pub find : (n level start i : ℕ) (s : List ℕ) → length s ≤ n → Accepted (read_of 13 0 s) → i < length (list_of 13 level start s) → Found level start i s
 unfolding Finds
-find zero level start i [] hn a hi = absurd (omega (arith, ap length (list-nil level start)))
+find zero level start i [] hn a hi = absurd (omega (arith, ap length (list_nil level start)))
 find zero level start i (k ∷ s) hn a hi = absurd (omega arith)
-find (suc n) level start i [] hn a hi = absurd (omega (arith, ap length (list-nil level start)))
+find (suc n) level start i [] hn a hi = absurd (omega (arith, ap length (list_nil level start)))
 find (suc n) level start i (k ∷ []) hn a hi = absurd (rw read_one at a)
 find (suc n) level start i (k ∷ (l ∷ rest)) hn a hi =
     by_cases (length rest) l
     (λ short. absurd (rw (read_more 0 k l rest, lt-ltb _ _ short) at a))
-    (λ present. find-turn n level start i k l rest (find n) (omega arith) present a hi)
+    (λ present. find_turn n level start i k l rest (find n) (omega arith) present a hi)
 
 -- ---- what stands before the hole's head, and what stands after the hole
 
@@ -188,20 +188,20 @@ back (here a) = a
 back (inside h a) = back h ++ a
 back (past d h) = back h
 
-pub cut-filled : (c : Cut) (h : Hole) → filled h c ≡ prior c h ++ headed c (back h)
+pub cut_filled : (c : Cut) (h : Hole) → filled h c ≡ prior c h ++ headed c (back h)
 unfolding filled
-cut-filled c (here a) = refl
-cut-filled c (inside h a) =
-    let e : filled h c ++ a ≡ prior c h ++ headed c (back h ++ a) = rw (cut-filled c h) (simp append_assoc) in
+cut_filled c (here a) = refl
+cut_filled c (inside h a) =
+    let e : filled h c ++ a ≡ prior c h ++ headed c (back h ++ a) = rw (cut_filled c h) (simp append_assoc) in
     ap (λ (l : List ℕ). 13 ∷ (length (filled h c) ∷ l)) e
-cut-filled c (past d h) = rw (cut-filled c h) (simp append_assoc)
+cut_filled c (past d h) = rw (cut_filled c h) (simp append_assoc)
 
-pub length-prior : (c : Cut) (start : ℕ) (h : Hole) → start + length (prior c h) ≡ start_at start h
-length-prior c start (here a) = omega arith
-length-prior c start (inside h a) = omega (arith, length-prior c (start + 2) h)
-length-prior c start (past d h) =
-    omega (arith, length-prior c (start + (2 + length d.payload)) h, length-append d.payload (prior c h))
+pub length_prior : (c : Cut) (start : ℕ) (h : Hole) → start + length (prior c h) ≡ start_at start h
+length_prior c start (here a) = omega arith
+length_prior c start (inside h a) = omega (arith, length_prior c (start + 2) h)
+length_prior c start (past d h) =
+    omega (arith, length_prior c (start + (2 + length d.payload)) h, length-append d.payload (prior c h))
 
-pub length-filled : (c : Cut) (start : ℕ) (h : Hole) → start + length (filled h c) ≡ start_at start h + (2 + (length c.payload + length (back h)))
-length-filled c start h =
-    omega (arith, length-prior c start h, ap length (cut-filled c h), length-append (prior c h) (headed c (back h)), length-append c.payload (back h))
+pub length_filled : (c : Cut) (start : ℕ) (h : Hole) → start + length (filled h c) ≡ start_at start h + (2 + (length c.payload + length (back h)))
+length_filled c start h =
+    omega (arith, length_prior c start h, ap length (cut_filled c h), length-append (prior c h) (headed c (back h)), length-append c.payload (back h))

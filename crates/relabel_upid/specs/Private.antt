@@ -3,7 +3,7 @@ use Rattle.std.specs.Prelude.{ℕ, ◌+◌, ◌-◌, ◌≤◌, ◌<◌, true, L
 use Rattle.table.specs.Bits.{pick}
 use Rattle.upid.specs.Cover.{All}
 use Rattle.upid.specs.Private.{Accepted}
-use Rattle.upid.specs.Upid.{read_of, list_of, blankPart}
+use Rattle.upid.specs.Upid.{read_of, list_of, blank_part}
 use Rattle.upid.specs.declared.Part.{Part}
 use Rattle.relabel_upid.specs.Relabel.{instead, around}
 
@@ -12,11 +12,11 @@ abbrev pub heads : List ℕ → List Part
 heads top = list_of 13 1 0 top
 
 abbrev pub nth : List ℕ → ℕ → Part
-nth top i = get_or (heads top) i blankPart
+nth top i = get_or (heads top) i blank_part
 
 -- where the head after the one at a place stands: inside its part where that is a MID, else behind it
-abbrev pub nextHead : List ℕ → ℕ → ℕ
-nextHead top at = pick (eqb (get_or top at 0) 13) (at + 2) (at + 2 + get_or top (at + 1) 0)
+abbrev pub next_head : List ℕ → ℕ → ℕ
+next_head top at = pick (eqb (get_or top at 0) 13) (at + 2) (at + 2 + get_or top (at + 1) 0)
 
 -- a MID that was accepted
 pub record Walkable (top : List ℕ) : Type 0 where

@@ -1,11 +1,11 @@
 // Adjustments in a chain: a time moved, two adjustments as one, one taken back, and a section with its own pts_adjustment moved.
 ghost use Rattle.std.specs.Prelude.{◌≡◌, drop};
-ghost use Rattle.adjust.specs.Adjust.{adjustOf, chainOf, undoOf};
-ghost use Rattle.adjust_section.specs.Adjusted.{adjustedSection};
-ghost use Rattle.c_adjust.specs.FlatAdjust.{flatMoved, flatAdjustment};
-ghost use Rattle.c_command_writer.specs.Words.{flatWritten};
-ghost use Rattle.bit_stores.specs.Written.{answer_of, laterOf};
-ghost use Rattle.scte35.specs.FlatNumber.{timeHanded};
+ghost use Rattle.adjust.specs.Adjust.{adjust_of, chain_of, undo_of};
+ghost use Rattle.adjust_section.specs.Adjusted.{adjusted_section};
+ghost use Rattle.c_adjust.specs.FlatAdjust.{flat_moved, flat_adjustment};
+ghost use Rattle.c_command_writer.specs.Words.{flat_written};
+ghost use Rattle.bit_stores.specs.Written.{answer_of, later_of};
+ghost use Rattle.scte35.specs.FlatNumber.{time_handed};
 
 use crate::{rest, time_from};
 use adjust::{adjust, chain, undo};
@@ -17,7 +17,7 @@ use c_section::headers::FlatAdjusted;
 // A time of kind 3 moved; any other kind stays as it is.
 #[unsafe(no_mangle)]
 pub extern "C" fn scte35_move_time(kind: u64, ticks: u64, adjustment: u64) -> FlatAdjusted
-    ensures { result ≡ flatMoved kind (adjustOf (timeHanded kind ticks) adjustment) }
+    ensures { result ≡ flat_moved kind (adjust_of (time_handed kind ticks) adjustment) }
 {
     flat_moved(kind, adjust(time_from(kind, ticks), adjustment))
 }
@@ -25,7 +25,7 @@ pub extern "C" fn scte35_move_time(kind: u64, ticks: u64, adjustment: u64) -> Fl
 // The one adjustment that does what a and then b do.
 #[unsafe(no_mangle)]
 pub extern "C" fn scte35_chain_adjustments(a: u64, b: u64) -> FlatAdjustment
-    ensures { result ≡ flatAdjustment (chainOf a b) }
+    ensures { result ≡ flat_adjustment (chain_of a b) }
 {
     flat_adjustment(chain(a, b))
 }
@@ -33,7 +33,7 @@ pub extern "C" fn scte35_chain_adjustments(a: u64, b: u64) -> FlatAdjustment
 // The adjustment that takes a back.
 #[unsafe(no_mangle)]
 pub extern "C" fn scte35_undo_adjustment(a: u64) -> FlatAdjustment
-    ensures { result ≡ flatAdjustment (undoOf a) }
+    ensures { result ≡ flat_adjustment (undo_of a) }
 {
     flat_adjustment(undo(a))
 }
@@ -46,8 +46,8 @@ pub extern "C" fn scte35_adjust_section(
     adjustment: u64,
     target: &mut [u8],
 ) -> FlatWritten
-    ensures answer { result ≡ flatWritten (answer_of (adjustedSection (drop at section.now) adjustment) target.old) }
-    ensures bytes { target.new ≡ laterOf (adjustedSection (drop at section.now) adjustment) target.old }
+    ensures answer { result ≡ flat_written (answer_of (adjusted_section (drop at section.now) adjustment) target.old) }
+    ensures bytes { target.new ≡ later_of (adjusted_section (drop at section.now) adjustment) target.old }
 {
     flat_written(adjust_section(rest(section, at), adjustment, target))
 }

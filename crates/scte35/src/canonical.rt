@@ -1,7 +1,7 @@
 // The tests of the canonical form: of all bytes from the offset on.
 ghost use Rattle.std.specs.Prelude.{◌≡◌, drop};
-ghost use Rattle.canonical_form.specs.Descriptor.{canonicalDescriptor, canonicalLoop};
-ghost use Rattle.canonical_form.specs.Section.{canonicalSection};
+ghost use Rattle.canonical_form.specs.Descriptor.{canonical_descriptor, canonical_loop};
+ghost use Rattle.canonical_form.specs.Section.{canonical_section};
 
 use crate::rest;
 use descriptor_canonical::{is_canonical_descriptor, is_canonical_loop};
@@ -9,21 +9,21 @@ use section_writer::is_canonical_section;
 
 #[unsafe(no_mangle)]
 pub extern "C" fn scte35_is_canonical_section(section: &[u8], at: usize) -> bool
-    ensures { result ≡ canonicalSection (drop at section.now) }
+    ensures { result ≡ canonical_section (drop at section.now) }
 {
     is_canonical_section(rest(section, at))
 }
 
 #[unsafe(no_mangle)]
 pub extern "C" fn scte35_is_canonical_loop(descriptors: &[u8], at: usize) -> bool
-    ensures { result ≡ canonicalLoop (drop at descriptors.now) }
+    ensures { result ≡ canonical_loop (drop at descriptors.now) }
 {
     is_canonical_loop(rest(descriptors, at))
 }
 
 #[unsafe(no_mangle)]
 pub extern "C" fn scte35_is_canonical_descriptor(descriptor: &[u8], at: usize) -> bool
-    ensures { result ≡ canonicalDescriptor (drop at descriptor.now) }
+    ensures { result ≡ canonical_descriptor (drop at descriptor.now) }
 {
     is_canonical_descriptor(rest(descriptor, at))
 }

@@ -1,19 +1,19 @@
 // The C boundary: include/scte35.h declares these functions. Each takes bytes and an offset, reads what stands from there to the end (nothing where the
 // offset lies past it), and answers a struct of 64-bit words. Views count from the offset; those of a loop's items, from the loop's first byte.
 ghost use Rattle.std.specs.Prelude.{◌≡◌, drop};
-ghost use Rattle.command.specs.Command.{commandOf, componentsOf};
-ghost use Rattle.crc.specs.Crc.{crcOf};
-ghost use Rattle.c_section.specs.Flat.{flatHeaderRead, flatAdjusted};
-ghost use Rattle.c_section.specs.FlatCommand.{flatCommandRead, flatInsertComponents};
-ghost use Rattle.c_section.specs.FlatSection.{flatSectionRead};
-ghost use Rattle.c_items.specs.FlatItem.{flatStep, flatBeside};
-ghost use Rattle.c_items.specs.FlatUpid.{flatUpid};
-ghost use Rattle.header.specs.Header.{headerOf};
-ghost use Rattle.splice_time.specs.Time.{adjustedOf};
+ghost use Rattle.command.specs.Command.{command_of, components_of};
+ghost use Rattle.crc.specs.Crc.{crc_of};
+ghost use Rattle.c_section.specs.Flat.{flat_header_read, flat_adjusted};
+ghost use Rattle.c_section.specs.FlatCommand.{flat_command_read, flat_insert_components};
+ghost use Rattle.c_section.specs.FlatSection.{flat_section_read};
+ghost use Rattle.c_items.specs.FlatItem.{flat_step, flat_beside};
+ghost use Rattle.c_items.specs.FlatUpid.{flat_upid};
+ghost use Rattle.header.specs.Header.{header_of};
+ghost use Rattle.splice_time.specs.Time.{adjusted_of};
 ghost use Rattle.descriptor_loop.specs.Items.{step_of, reading_of};
-ghost use Rattle.section.specs.Section.{sectionOf};
-ghost use Rattle.upid.specs.Upid.{upidOf};
-ghost use Rattle.scte35.specs.FlatNumber.{timeHanded};
+ghost use Rattle.section.specs.Section.{section_of};
+ghost use Rattle.upid.specs.Upid.{upid_of};
+ghost use Rattle.scte35.specs.FlatNumber.{time_handed};
 
 use c_items::beside::{FlatBeside, flat_beside};
 use c_items::steps::{FlatStep, flat_step};
@@ -54,7 +54,7 @@ pub(crate) fn rest(s: &[u8], at: usize) -> &[u8]
 
 #[unsafe(no_mangle)]
 pub extern "C" fn scte35_read_header(s: &[u8], at: usize) -> FlatHeader
-    ensures { result ≡ flatHeaderRead (headerOf (drop at s.now)) }
+    ensures { result ≡ flat_header_read (header_of (drop at s.now)) }
 {
     read_flat_header(rest(s, at))
 }
@@ -63,7 +63,7 @@ pub extern "C" fn scte35_read_header(s: &[u8], at: usize) -> FlatHeader
 // match, or behind a call, are held word by word.
 #[unsafe(no_mangle)]
 pub extern "C" fn scte35_read_section(section: &[u8], at: usize) -> FlatSection
-    ensures { result ≡ flatSectionRead (sectionOf (drop at section.now)) }
+    ensures { result ≡ flat_section_read (section_of (drop at section.now)) }
 {
     let t = rest(section, at);
     let frame = match read_frame(t) {
@@ -109,7 +109,7 @@ pub extern "C" fn scte35_read_section(section: &[u8], at: usize) -> FlatSection
 // The command of a type, in its payload.
 #[unsafe(no_mangle)]
 pub extern "C" fn scte35_read_command(command_type: u8, payload: &[u8], at: usize) -> FlatCommand
-    ensures { result ≡ flatCommandRead (commandOf command_type (drop at payload.now)) }
+    ensures { result ≡ flat_command_read (command_of command_type (drop at payload.now)) }
 {
     flat_command_read(read_command(command_type, rest(payload, at)))
 }
@@ -117,7 +117,7 @@ pub extern "C" fn scte35_read_command(command_type: u8, payload: &[u8], at: usiz
 // The components of an insert, in its payload.
 #[unsafe(no_mangle)]
 pub extern "C" fn scte35_read_insert_components(payload: &[u8], at: usize) -> FlatInsertComponents
-    ensures { result ≡ flatInsertComponents (commandOf 0x05 (drop at payload.now)) (componentsOf (drop at payload.now)) }
+    ensures { result ≡ flat_insert_components (command_of 0x05 (drop at payload.now)) (components_of (drop at payload.now)) }
 {
     let listed = read_components(rest(payload, at));
     let read = listed.read;
@@ -128,7 +128,7 @@ pub extern "C" fn scte35_read_insert_components(payload: &[u8], at: usize) -> Fl
 // The item at an offset of a loop.
 #[unsafe(no_mangle)]
 pub extern "C" fn scte35_read_item(descriptors: &[u8], offset: usize) -> FlatStep
-    ensures { result ≡ flatStep (step_of descriptors.now offset) }
+    ensures { result ≡ flat_step (step_of descriptors.now offset) }
 {
     flat_step(step(descriptors, offset))
 }
@@ -139,7 +139,7 @@ pub extern "C" fn scte35_read_segmentation_components(
     descriptors: &[u8],
     offset: usize,
 ) -> FlatBeside
-    ensures { result ≡ flatBeside (reading_of descriptors.now offset) }
+    ensures { result ≡ flat_beside (reading_of descriptors.now offset) }
 {
     flat_beside(read_item(descriptors, offset))
 }
@@ -147,21 +147,21 @@ pub extern "C" fn scte35_read_segmentation_components(
 // The UPID of a type, in all bytes from the offset on.
 #[unsafe(no_mangle)]
 pub extern "C" fn scte35_read_upid(upid_type: u8, upid: &[u8], at: usize) -> FlatUpid
-    ensures { result ≡ flatUpid (upidOf upid_type (drop at upid.now)) }
+    ensures { result ≡ flat_upid (upid_of upid_type (drop at upid.now)) }
 {
     flat_upid(read_upid(upid_type, rest(upid, at)))
 }
 
 #[unsafe(no_mangle)]
 pub extern "C" fn scte35_crc(s: &[u8], at: usize) -> u32
-    ensures { result ≡ crcOf (drop at s.now) }
+    ensures { result ≡ crc_of (drop at s.now) }
 {
     crc32(rest(s, at))
 }
 
 // The time that is handed in. Ticks over 33 bits are kept whatever the kind, so that they are refused.
 pub(crate) fn time_from(kind: u64, ticks: u64) -> SpliceTime
-    ensures { result ≡ timeHanded kind ticks }
+    ensures { result ≡ time_handed kind ticks }
 {
     if kind == 3 {
         return SpliceTime::At(ticks);
@@ -175,7 +175,7 @@ pub(crate) fn time_from(kind: u64, ticks: u64) -> SpliceTime
 // A time of kind 3 with its adjustment; any other kind is no time.
 #[unsafe(no_mangle)]
 pub extern "C" fn scte35_adjust_time(kind: u64, ticks: u64, pts_adjustment: u64) -> FlatAdjusted
-    ensures { result ≡ flatAdjusted (adjustedOf (timeHanded kind ticks) pts_adjustment) }
+    ensures { result ≡ flat_adjusted (adjusted_of (time_handed kind ticks) pts_adjustment) }
 {
     flat_adjusted(adjusted_time(time_from(kind, ticks), pts_adjustment))
 }

@@ -1,11 +1,11 @@
 // The named numbers: whether a number has a name (class 0), is reserved (1) or private (2); or refusal 12.
 ghost use Rattle.std.specs.Prelude.{◌≡◌};
-ghost use Rattle.names.specs.Algorithm.{algorithmEntry, algorithmOf};
-ghost use Rattle.names.specs.Command.{commandEntry, commandTypeOf};
-ghost use Rattle.names.specs.Flags.{networkFlag, networkOf, returnFlag, returnOf, restrictionsBits, restrictionsOf};
-ghost use Rattle.names.specs.Segmentation.{segmentationEntry, segmentationTypeOf};
-ghost use Rattle.names.specs.Upid.{upidTypeEntry, upidTypeOf};
-ghost use Rattle.scte35.specs.FlatNumber.{flatName, flatAnswer};
+ghost use Rattle.names.specs.Algorithm.{algorithm_entry, algorithm_of};
+ghost use Rattle.names.specs.Command.{command_entry, command_type_of};
+ghost use Rattle.names.specs.Flags.{network_flag, network_of, return_flag, return_of, restrictions_bits, restrictions_of};
+ghost use Rattle.names.specs.Segmentation.{segmentation_entry, segmentation_type_of};
+ghost use Rattle.names.specs.Upid.{upid_type_entry, upid_type_of};
+ghost use Rattle.scte35.specs.FlatNumber.{flat_name, flat_answer};
 
 use names::algorithm::EncryptionAlgorithm;
 use names::command::SpliceCommandType;
@@ -45,7 +45,7 @@ fn refused() -> FlatNumber
 
 #[unsafe(no_mangle)]
 pub extern "C" fn scte35_classify_algorithm(n: u8) -> FlatNumber
-    ensures { result ≡ flatName algorithmEntry (algorithmOf n) }
+    ensures { result ≡ flat_name algorithm_entry (algorithm_of n) }
 {
     let x = EncryptionAlgorithm::from_id(n);
     match x {
@@ -57,7 +57,7 @@ pub extern "C" fn scte35_classify_algorithm(n: u8) -> FlatNumber
 
 #[unsafe(no_mangle)]
 pub extern "C" fn scte35_classify_command_type(n: u8) -> FlatNumber
-    ensures { result ≡ flatName commandEntry (commandTypeOf n) }
+    ensures { result ≡ flat_name command_entry (command_type_of n) }
 {
     let x = SpliceCommandType::from_id(n);
     match x {
@@ -68,7 +68,7 @@ pub extern "C" fn scte35_classify_command_type(n: u8) -> FlatNumber
 
 #[unsafe(no_mangle)]
 pub extern "C" fn scte35_classify_upid_type(n: u8) -> FlatNumber
-    ensures { result ≡ flatName upidTypeEntry (upidTypeOf n) }
+    ensures { result ≡ flat_name upid_type_entry (upid_type_of n) }
 {
     let x = SegmentationUpidType::from_type(n);
     match x {
@@ -79,7 +79,7 @@ pub extern "C" fn scte35_classify_upid_type(n: u8) -> FlatNumber
 
 #[unsafe(no_mangle)]
 pub extern "C" fn scte35_classify_segmentation_type(n: u8) -> FlatNumber
-    ensures { result ≡ flatName segmentationEntry (segmentationTypeOf n) }
+    ensures { result ≡ flat_name segmentation_entry (segmentation_type_of n) }
 {
     let x = SegmentationTypeId::from_id(n);
     match x {
@@ -90,7 +90,7 @@ pub extern "C" fn scte35_classify_segmentation_type(n: u8) -> FlatNumber
 
 #[unsafe(no_mangle)]
 pub extern "C" fn scte35_classify_network_indicator(n: u8) -> FlatNumber
-    ensures { result ≡ flatAnswer networkFlag (networkOf n) }
+    ensures { result ≡ flat_answer network_flag (network_of n) }
 {
     match NetworkIndicator::from_flag(n) {
         NetworkRead::Is(x) => classed(0, x.flag()),
@@ -100,7 +100,7 @@ pub extern "C" fn scte35_classify_network_indicator(n: u8) -> FlatNumber
 
 #[unsafe(no_mangle)]
 pub extern "C" fn scte35_classify_return_mode(n: u8) -> FlatNumber
-    ensures { result ≡ flatAnswer returnFlag (returnOf n) }
+    ensures { result ≡ flat_answer return_flag (return_of n) }
 {
     match ReturnMode::from_flag(n) {
         ReturnRead::Is(x) => classed(0, x.flag()),
@@ -110,7 +110,7 @@ pub extern "C" fn scte35_classify_return_mode(n: u8) -> FlatNumber
 
 #[unsafe(no_mangle)]
 pub extern "C" fn scte35_classify_device_restrictions(n: u8) -> FlatNumber
-    ensures { result ≡ flatAnswer restrictionsBits (restrictionsOf n) }
+    ensures { result ≡ flat_answer restrictions_bits (restrictions_of n) }
 {
     match DeviceRestrictions::from_bits(n) {
         RestrictionsRead::Is(x) => classed(0, x.bits()),

@@ -1,14 +1,14 @@
 // Sections from transport packets: the assembler of one PID, whose state stands in words that the caller lends.
 ghost use Rattle.std.specs.Prelude.{◌≡◌};
-ghost use Rattle.transport.specs.Assembler.{freshAssembler, fedOf, taken_of};
-ghost use Rattle.c_packet.specs.PacketWords.{stateIn, keptIn, fedNumber, keptFed, takenNumber, keptTaken};
+ghost use Rattle.transport.specs.Assembler.{fresh_assembler, fed_of, taken_of};
+ghost use Rattle.c_packet.specs.PacketWords.{state_in, kept_in, fed_number, kept_fed, taken_number, kept_taken};
 
 use c_packet::{feed_words, start_words, take_words};
 
 // The state before the first packet of a PID.
 #[unsafe(no_mangle)]
 pub extern "C" fn scte35_packet_start(pid: u64, state: &mut [u64])
-    ensures { state.new ≡ keptIn state.old (freshAssembler pid) }
+    ensures { state.new ≡ kept_in state.old (fresh_assembler pid) }
 {
     start_words(pid, state)
 }
@@ -16,9 +16,9 @@ pub extern "C" fn scte35_packet_start(pid: u64, state: &mut [u64])
 // Takes a packet in: 0, or the number of its refusal, with which nothing changes.
 #[unsafe(no_mangle)]
 pub extern "C" fn scte35_packet_feed(state: &mut [u64], packet: &[u8], buffer: &mut [u8]) -> u64
-    ensures answer { result ≡ fedNumber (fedOf (stateIn state.old) packet.now buffer.old).answer }
-    ensures state { state.new ≡ keptFed state.old (fedOf (stateIn state.old) packet.now buffer.old).answer }
-    ensures bytes { buffer.new ≡ (fedOf (stateIn state.old) packet.now buffer.old).buffer }
+    ensures answer { result ≡ fed_number (fed_of (state_in state.old) packet.now buffer.old).answer }
+    ensures state { state.new ≡ kept_fed state.old (fed_of (state_in state.old) packet.now buffer.old).answer }
+    ensures bytes { buffer.new ≡ (fed_of (state_in state.old) packet.now buffer.old).buffer }
 {
     feed_words(state, packet, buffer)
 }
@@ -26,9 +26,9 @@ pub extern "C" fn scte35_packet_feed(state: &mut [u64], packet: &[u8], buffer: &
 // The length of the next section that the packet finishes; 0 where nothing is left of it.
 #[unsafe(no_mangle)]
 pub extern "C" fn scte35_packet_take(state: &mut [u64], packet: &[u8], buffer: &mut [u8]) -> u64
-    ensures answer { result ≡ takenNumber (taken_of (stateIn state.old) packet.now buffer.old).answer }
-    ensures state { state.new ≡ keptTaken state.old (taken_of (stateIn state.old) packet.now buffer.old).answer }
-    ensures bytes { buffer.new ≡ (taken_of (stateIn state.old) packet.now buffer.old).buffer }
+    ensures answer { result ≡ taken_number (taken_of (state_in state.old) packet.now buffer.old).answer }
+    ensures state { state.new ≡ kept_taken state.old (taken_of (state_in state.old) packet.now buffer.old).answer }
+    ensures bytes { buffer.new ≡ (taken_of (state_in state.old) packet.now buffer.old).buffer }
 {
     take_words(state, packet, buffer)
 }

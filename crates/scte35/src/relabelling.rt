@@ -1,8 +1,8 @@
 // One identifier of a section replaced, and every other one kept.
 ghost use Rattle.std.specs.Prelude.{◌≡◌};
-ghost use Rattle.c_command_writer.specs.Words.{flatWritten};
-ghost use Rattle.bit_stores.specs.Written.{answer_of, laterOf};
-ghost use Rattle.relabel.specs.Relabel.{relabelMade};
+ghost use Rattle.c_command_writer.specs.Words.{flat_written};
+ghost use Rattle.bit_stores.specs.Written.{answer_of, later_of};
+ghost use Rattle.relabel.specs.Relabel.{relabel_made};
 
 use c_command_writer::{FlatWritten, flat_written};
 use relabel::relabel;
@@ -18,8 +18,8 @@ pub extern "C" fn scte35_relabel(
     bytes: &[u8],
     target: &mut [u8],
 ) -> FlatWritten
-    ensures answer { result ≡ flatWritten (answer_of (relabelMade section.now offset part upid_type bytes.now) target.old) }
-    ensures bytes { target.new ≡ laterOf (relabelMade section.now offset part upid_type bytes.now) target.old }
+    ensures answer { result ≡ flat_written (answer_of (relabel_made section.now offset part upid_type bytes.now) target.old) }
+    ensures bytes { target.new ≡ later_of (relabel_made section.now offset part upid_type bytes.now) target.old }
 {
     flat_written(relabel(section, offset, part, upid_type, bytes, target))
 }

@@ -1,10 +1,10 @@
 // The writers. They take words, those of the C structs in their order: a word past the end counts as 0, and words past the struct's end are not looked at.
 ghost use Rattle.std.specs.Prelude.{◌≡◌};
-ghost use Rattle.c_descriptor_writer.specs.ItemGiven.{descriptorWordsMade};
-ghost use Rattle.c_section_writer.specs.SectionGiven.{sectionWordsMade};
-ghost use Rattle.c_command_writer.specs.CommandGiven.{commandWordsMade};
-ghost use Rattle.c_command_writer.specs.Words.{flatWritten};
-ghost use Rattle.bit_stores.specs.Written.{answer_of, laterOf};
+ghost use Rattle.c_descriptor_writer.specs.ItemGiven.{descriptor_words_made};
+ghost use Rattle.c_section_writer.specs.SectionGiven.{section_words_made};
+ghost use Rattle.c_command_writer.specs.CommandGiven.{command_words_made};
+ghost use Rattle.c_command_writer.specs.Words.{flat_written};
+ghost use Rattle.bit_stores.specs.Written.{answer_of, later_of};
 
 use c_command_writer::FlatWritten;
 use c_command_writer::commands::write_command_words;
@@ -19,8 +19,8 @@ pub extern "C" fn scte35_write_command_words(
     lent: &[u8],
     target: &mut [u8],
 ) -> FlatWritten
-    ensures answer { result ≡ flatWritten (answer_of (commandWordsMade command.now components.now lent.now) target.old) }
-    ensures bytes { target.new ≡ laterOf (commandWordsMade command.now components.now lent.now) target.old }
+    ensures answer { result ≡ flat_written (answer_of (command_words_made command.now components.now lent.now) target.old) }
+    ensures bytes { target.new ≡ later_of (command_words_made command.now components.now lent.now) target.old }
 {
     write_command_words(command, components, lent, target)
 }
@@ -33,8 +33,8 @@ pub extern "C" fn scte35_write_descriptor_words(
     lent: &[u8],
     target: &mut [u8],
 ) -> FlatWritten
-    ensures answer { result ≡ flatWritten (answer_of (descriptorWordsMade step.now beside.now lent.now) target.old) }
-    ensures bytes { target.new ≡ laterOf (descriptorWordsMade step.now beside.now lent.now) target.old }
+    ensures answer { result ≡ flat_written (answer_of (descriptor_words_made step.now beside.now lent.now) target.old) }
+    ensures bytes { target.new ≡ later_of (descriptor_words_made step.now beside.now lent.now) target.old }
 {
     write_descriptor_words(step, beside, lent, target)
 }
@@ -49,8 +49,8 @@ pub extern "C" fn scte35_write_section_words(
     descriptors: &[u8],
     target: &mut [u8],
 ) -> FlatWritten
-    ensures answer { result ≡ flatWritten (answer_of (sectionWordsMade header.now command.now components.now lent.now descriptors.now) target.old) }
-    ensures bytes { target.new ≡ laterOf (sectionWordsMade header.now command.now components.now lent.now descriptors.now) target.old }
+    ensures answer { result ≡ flat_written (answer_of (section_words_made header.now command.now components.now lent.now descriptors.now) target.old) }
+    ensures bytes { target.new ≡ later_of (section_words_made header.now command.now components.now lent.now descriptors.now) target.old }
 {
     write_section_words(header, command, components, lent, descriptors, target)
 }

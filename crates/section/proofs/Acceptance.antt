@@ -8,16 +8,16 @@ use lib.Dec.{eqb, ltb}
 use lib.ListN.{length, get_or, drop, length-drop}
 use borrow.Author.Tests.{ltb-false}
 use Rattle.command.specs.Command as command
-use Rattle.command.specs.Command.{commandOf}
+use Rattle.command.specs.Command.{command_of}
 use Rattle.command.specs.declared.CommandRead.{CommandRead}
-use Rattle.header.specs.Header.{headerOf}
+use Rattle.header.specs.Header.{header_of}
 use Rattle.header.specs.declared.header.HeaderRead.{HeaderRead}
 use Rattle.header.specs.declared.header.SpliceInfoHeader.{SpliceInfoHeader}
-use Rattle.header.proofs.Headers.{header-there}
-use Rattle.crc.specs.Crc.{crcOf}
+use Rattle.header.proofs.Headers.{header_there}
+use Rattle.crc.specs.Crc.{crc_of}
 use Rattle.table.specs.Bits.{pick, bits_of, field}
 use Rattle.table.proofs.Lists.{zero_one}
-use Rattle.section.specs.Section.{unknownCommand, malformedCommand, conditions, first, None, commandLength, roomAfter, loopLength, commandType, commandBytes, frameIn, frame_of, movedRead, accepted, through, sectionOf, number_of}
+use Rattle.section.specs.Section.{unknown_command, malformed_command, conditions, first, None, command_length, room_after, loop_length, command_type, command_bytes, frame_in, frame_of, moved_read, accepted, through, section_of, number_of}
 use Rattle.section.specs.declared.Frame.{Frame}
 use Rattle.section.specs.declared.FrameRead.{FrameRead}
 use Rattle.section.specs.declared.Refusal.{Refusal}
@@ -25,8 +25,8 @@ use Rattle.section.specs.declared.Section.{Section}
 use Rattle.section.specs.declared.SectionRead.{SectionRead}
 
 -- ---- the first refusal that applies
-last : (r : CommandRead) (h : SpliceInfoHeader) (v : Frame) → number_of (accepted (HeaderRead.Header h) (movedRead r) v) ≡ first 10 (eqb (command.number_of r) 10 ∷ eqb (command.number_of r) 11 ∷ [])
-unfolding number_of accepted movedRead
+last : (r : CommandRead) (h : SpliceInfoHeader) (v : Frame) → number_of (accepted (HeaderRead.Header h) (moved_read r) v) ≡ first 10 (eqb (command.number_of r) 10 ∷ eqb (command.number_of r) 11 ∷ [])
+unfolding number_of accepted moved_read
 last (CommandRead.Is c) h v = refl
 last CommandRead.UnknownType h v = refl
 last CommandRead.Malformed h v = refl
@@ -57,14 +57,14 @@ chain false false false false false false false false true h r v bs k = refl
 chain false false false false false false false false false h r v bs k = k refl
 
 -- refusals 1 to 11 are given in order of number, each under its condition and no other
-pub refusals-in-order : (s : List ℕ) → number_of (sectionOf s) ≡ first 1 (conditions s)
-unfolding sectionOf frame_of
-refusals-in-order s =
-    chain (ltb (length s) 3) (ltb 4096 (length s)) (not (eqb (get_or s 0 0) 0xfc)) (not (eqb (crcOf s) 0)) (ltb (length s) 18)
-    (eqb (field (bits_of s) 32 1) 1) (ltb (length s - 18) (commandLength s)) (ltb (roomAfter s) 2) (ltb (roomAfter s) (loopLength s + 2))
-    (headerOf (drop 3 s)) (movedRead (commandOf (commandType s) (commandBytes s))) (frameIn s) (unknownCommand s ∷ malformedCommand s ∷ [])
-    (λ e. let h = header-there (drop 3 s) (omega (arith, length-drop 3 s, ltb-false (length s) 18 e)) in
-    rw h.1 (last (commandOf (commandType s) (commandBytes s)) h.0 (frameIn s)))
+pub refusals_in_order : (s : List ℕ) → number_of (section_of s) ≡ first 1 (conditions s)
+unfolding section_of frame_of
+refusals_in_order s =
+    chain (ltb (length s) 3) (ltb 4096 (length s)) (not (eqb (get_or s 0 0) 0xfc)) (not (eqb (crc_of s) 0)) (ltb (length s) 18)
+    (eqb (field (bits_of s) 32 1) 1) (ltb (length s - 18) (command_length s)) (ltb (room_after s) 2) (ltb (room_after s) (loop_length s + 2))
+    (header_of (drop 3 s)) (moved_read (command_of (command_type s) (command_bytes s))) (frame_in s) (unknown_command s ∷ malformed_command s ∷ [])
+    (λ e. let h = header_there (drop 3 s) (omega (arith, length-drop 3 s, ltb-false (length s) 18 e)) in
+    rw h.1 (last (command_of (command_type s) (command_bytes s)) h.0 (frame_in s)))
 
 -- ---- accepted exactly when none applies
 none_first : (n : ℕ) (bs : List Bool) → None bs → first n bs ≡ 0
@@ -72,10 +72,10 @@ none_first n [] h = refl
 none_first n (true ∷ bs) h = zero_one cc
 none_first n (false ∷ bs) h = none_first (suc n) bs h.1
 
-first-none : (n : ℕ) (bs : List Bool) → first (suc n) bs ≡ 0 → None bs
-first-none n [] e = tt
-first-none n (true ∷ bs) e = absurd (omega arith)
-first-none n (false ∷ bs) e = (refl, first-none (suc n) bs e)
+first_none : (n : ℕ) (bs : List Bool) → first (suc n) bs ≡ 0 → None bs
+first_none n [] e = tt
+first_none n (true ∷ bs) e = absurd (omega arith)
+first_none n (false ∷ bs) e = (refl, first_none (suc n) bs e)
 
 pub is_read : (r : SectionRead) → number_of r ≡ 0 → (x : Section) × (r ≡ SectionRead.Is x)
 unfolding number_of
@@ -92,16 +92,16 @@ is_read (SectionRead.Refused Refusal.LoopTooLong) e = absurd (omega arith)
 is_read (SectionRead.Refused Refusal.UnknownCommand) e = absurd (omega arith)
 is_read (SectionRead.Refused Refusal.MalformedCommand) e = absurd (omega arith)
 
-pub number-some : (r : Refusal) → number_of (SectionRead.Refused r) ≡ 0 → ⊥
-number-some r e = let i = is_read (SectionRead.Refused r) e in zero_one (cc i.1)
+pub number_some : (r : Refusal) → number_of (SectionRead.Refused r) ≡ 0 → ⊥
+number_some r e = let i = is_read (SectionRead.Refused r) e in zero_one (cc i.1)
 
-pub none-holds : (s : List ℕ) → number_of (sectionOf s) ≡ 0 → None (conditions s)
-none-holds s e = first-none 0 (conditions s) (sym (refusals-in-order s) ∙ e)
+pub none_holds : (s : List ℕ) → number_of (section_of s) ≡ 0 → None (conditions s)
+none_holds s e = first_none 0 (conditions s) (sym (refusals_in_order s) ∙ e)
 
 -- 01: "A section is accepted exactly when none of 1 to 11 applies"
-pub accepted-if-none : (s : List ℕ) → None (conditions s) → (x : Section) × (sectionOf s ≡ SectionRead.Is x)
-accepted-if-none s h = is_read (sectionOf s) (refusals-in-order s ∙ none_first 1 (conditions s) h)
+pub accepted_if_none : (s : List ℕ) → None (conditions s) → (x : Section) × (section_of s ≡ SectionRead.Is x)
+accepted_if_none s h = is_read (section_of s) (refusals_in_order s ∙ none_first 1 (conditions s) h)
 
-pub none-if-accepted : (s : List ℕ) (x : Section) → sectionOf s ≡ SectionRead.Is x → None (conditions s)
+pub none_if_accepted : (s : List ℕ) (x : Section) → section_of s ≡ SectionRead.Is x → None (conditions s)
 unfolding number_of
-none-if-accepted s x e = none-holds s (ap number_of e)
+none_if_accepted s x e = none_holds s (ap number_of e)

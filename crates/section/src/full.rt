@@ -1,6 +1,6 @@
 // The full reading of a section, for those who ask: the components of an insert beside what the section says.
 ghost use Rattle.std.specs.Prelude.{◌≡◌};
-ghost use Rattle.section.specs.Full.{besideCommand, fullSectionOf};
+ghost use Rattle.section.specs.Full.{beside_command, full_section_of};
 
 use crate::{SectionRead, read_section};
 use command::SpliceCommand;
@@ -16,7 +16,7 @@ pub struct FullSection {
 
 // What stands beside a command with this payload.
 fn beside_command(c: SpliceCommand, payload: &[u8]) -> [InsertComponent; MAX_COMPONENTS]
-    ensures { result ≡ besideCommand c payload.now }
+    ensures { result ≡ beside_command c payload.now }
 {
     match c {
         SpliceCommand::SpliceNull => blanks(),
@@ -32,7 +32,7 @@ fn beside_command(c: SpliceCommand, payload: &[u8]) -> [InsertComponent; MAX_COM
 
 // The section in these bytes, with its insert's components.
 pub fn read_full_section(section: &[u8]) -> FullSection
-    ensures { result ≡ fullSectionOf section.now }
+    ensures { result ≡ full_section_of section.now }
 {
     let read = read_section(section);
     match read {

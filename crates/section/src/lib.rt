@@ -1,12 +1,12 @@
 // A section: header, command, and the place of its descriptor loop.
 ghost use Rattle.std.specs.Prelude.{◌≡◌, ◌+◌, ◌*◌, ◌<◌, ◌≤◌, length, drop};
-ghost use Rattle.section.specs.Section.{commandLength, commandType, commandBytes, frameIn, moved, movedRead, accepted, frame_of, sectionOf, number_of, privateView};
+ghost use Rattle.section.specs.Section.{command_length, command_type, command_bytes, frame_in, moved, moved_read, accepted, frame_of, section_of, number_of, private_view};
 ghost use Rattle.section.specs.declared.SectionRead.{SectionRead};
 ghost use Rattle.table.specs.Lent.{viewed};
-ghost use Rattle.section.specs.Private.{viewStart, layout_of};
+ghost use Rattle.section.specs.Private.{view_start, layout_of};
 ghost use Rattle.table.specs.Bits.{bits_of, field};
-ghost use Rattle.command.specs.Command.{commandOf};
-ghost use Rattle.header.specs.Header.{headerOf};
+ghost use Rattle.command.specs.Command.{command_of};
+ghost use Rattle.header.specs.Header.{header_of};
 
 use command::{CommandRead, Private, SpliceCommand, read_command};
 use crc::crc32;
@@ -96,7 +96,7 @@ pub enum SectionRead {
 
 // A command whose views count from `base` bytes before it.
 fn move_command(c: SpliceCommand, base: usize) -> SpliceCommand
-    requires { (viewStart c ≤ 4) × (base ≤ 14) }
+    requires { (view_start c ≤ 4) × (base ≤ 14) }
     ensures { result ≡ moved base c }
 {
     match c {
@@ -122,7 +122,7 @@ fn move_command(c: SpliceCommand, base: usize) -> SpliceCommand
 // splice_command_length: four bits of byte 11, and byte 12.
 fn command_length(section: &[u8]) -> usize
     requires { 18 ≤ length section.now }
-    ensures { (result ≡ commandLength section.now) × (result < 4096) }
+    ensures { (result ≡ command_length section.now) × (result < 4096) }
 {
     (wide(section[11]) % 16 * 256 + wide(section[12])) as usize
 }
@@ -202,7 +202,7 @@ pub fn read_frame(section: &[u8]) -> FrameRead
 // The command of a type, in its payload, as a section has it: its views count from the section's first byte, 14 bytes before the payload. The C boundary's:
 // it has one caller, so that no command is handed on by value.
 pub fn read_command_part(command_type: u8, payload: &[u8]) -> CommandRead
-    ensures { result ≡ movedRead (commandOf command_type payload.now) }
+    ensures { result ≡ moved_read (command_of command_type payload.now) }
 {
     match read_command(command_type, payload) {
         CommandRead::Is(c) => CommandRead::Is(move_command(c, COMMAND_AT)),
@@ -213,8 +213,8 @@ pub fn read_command_part(command_type: u8, payload: &[u8]) -> CommandRead
 
 // The header and the command of a section whose parts are all there, beside its frame.
 fn read_parts(section: &[u8], frame: Frame) -> SectionRead
-    requires { (frame ≡ frameIn section.now) × (16 + commandLength section.now ≤ length section.now) }
-    ensures { result ≡ accepted (headerOf (drop 3 section.now)) (movedRead (commandOf (commandType section.now) (commandBytes section.now))) (frameIn section.now) }
+    requires { (frame ≡ frame_in section.now) × (16 + command_length section.now ≤ length section.now) }
+    ensures { result ≡ accepted (header_of (drop 3 section.now)) (moved_read (command_of (command_type section.now) (command_bytes section.now))) (frame_in section.now) }
 {
     let header = match read_header(&section[3..]) {
         HeaderRead::Header(h) => h,
@@ -237,7 +237,7 @@ fn read_parts(section: &[u8], frame: Frame) -> SectionRead
 
 // The section in these bytes.
 pub fn read_section(section: &[u8]) -> SectionRead
-    ensures { result ≡ sectionOf section.now }
+    ensures { result ≡ section_of section.now }
 {
     match read_frame(section) {
         FrameRead::Is(frame) => return read_parts(section, frame),
@@ -255,7 +255,7 @@ pub fn loop_of(section: &[u8], x: Section) -> &[u8]
 
 // The bytes of a private command, as a part of the lent section; none of any other command.
 pub fn private_bytes_of(section: &[u8], c: SpliceCommand) -> &[u8]
-    ensures { result.now ≡ viewed section.now (privateView c) }
+    ensures { result.now ≡ viewed section.now (private_view c) }
 {
     let nothing = View { at: 0, len: 0 };
     match c {

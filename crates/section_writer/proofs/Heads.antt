@@ -10,37 +10,37 @@ use native.Mathlib.Omega.{arith}
 use lib.Dec.{ltb}
 use lib.ListN.{length, length-append}
 use borrow.Author.Tests.{ltb-true, lt-ltb, not-true}
-use Rattle.header.specs.Header.{spliceHeader}
+use Rattle.header.specs.Header.{splice_header}
 use Rattle.header.specs.declared.header.SpliceInfoHeader.{SpliceInfoHeader}
-use Rattle.header.proofs.Headers.{writableHeader}
-use Rattle.names.specs.Algorithm.{algorithmNumber, writableAlgorithm}
-use Rattle.names.specs.Command.{commandNumber, commandTypeOf, writableCommand}
-use Rattle.names.proofs.Commands.{command-laws}
-use Rattle.table.specs.Bits.{bitsOfNum, bytes_of, bigEndian}
-use Rattle.table.specs.Table.{flagNumber, number, bit}
+use Rattle.header.proofs.Headers.{writable_header}
+use Rattle.names.specs.Algorithm.{algorithm_number, writable_algorithm}
+use Rattle.names.specs.Command.{command_number, command_type_of, writable_command}
+use Rattle.names.proofs.Commands.{command_laws}
+use Rattle.table.specs.Bits.{bits_of_num, bytes_of, big_endian}
+use Rattle.table.specs.Table.{flag_number, number, bit}
 use Rattle.table.specs.Writing.{walk, seen, within, contents, print, made, make}
-use Rattle.table.proofs.Bits.{length-bytesN}
-use Rattle.table.proofs.Lists.{and-true}
-use Rattle.section_writer.specs.Frame.{headed, headerBytes, opening, head, numbersFit, writableHead}
-use Rattle.section.specs.Section.{sectionLength}
+use Rattle.table.proofs.Bits.{length_bytes_n}
+use Rattle.table.proofs.Lists.{and_true}
+use Rattle.section_writer.specs.Frame.{headed, header_bytes, opening, head, numbers_fit, writable_head}
+use Rattle.section.specs.Section.{section_length}
 
 -- ---- what refusal 32 asks of a header
 pub record Fitting (h : SpliceInfoHeader) : Type 0 where
   pub version : h.protocol_version < 2 ^ 8
-  pub algorithm : algorithmNumber h.encryption_algorithm < 2 ^ 6
+  pub algorithm : algorithm_number h.encryption_algorithm < 2 ^ 6
   pub adjustment : h.pts_adjustment < 2 ^ 33
   pub index : h.cw_index < 2 ^ 8
   pub tiers : h.tier < 2 ^ 12
 
-pub fitting : (h : SpliceInfoHeader) → numbersFit h ≡ true → Fitting h
-unfolding numbersFit headed spliceHeader number bit
+pub fitting : (h : SpliceInfoHeader) → numbers_fit h ≡ true → Fitting h
+unfolding numbers_fit headed splice_header number bit
 fitting h e =
-    let a₁ = and-true (ltb h.protocol_version (2 ^ 8)) _ e in
-    let a₂ = and-true (ltb (flagNumber h.encrypted_packet) (2 ^ 1)) _ a₁.1 in
-    let a₃ = and-true (ltb (algorithmNumber h.encryption_algorithm) (2 ^ 6)) _ a₂.1 in
-    let a₄ = and-true (ltb h.pts_adjustment (2 ^ 33)) _ a₃.1 in
-    let a₅ = and-true (ltb h.cw_index (2 ^ 8)) _ a₄.1 in
-    let a₆ = and-true (ltb h.tier (2 ^ 12)) _ a₅.1 in
+    let a₁ = and_true (ltb h.protocol_version (2 ^ 8)) _ e in
+    let a₂ = and_true (ltb (flag_number h.encrypted_packet) (2 ^ 1)) _ a₁.1 in
+    let a₃ = and_true (ltb (algorithm_number h.encryption_algorithm) (2 ^ 6)) _ a₂.1 in
+    let a₄ = and_true (ltb h.pts_adjustment (2 ^ 33)) _ a₃.1 in
+    let a₅ = and_true (ltb h.cw_index (2 ^ 8)) _ a₄.1 in
+    let a₆ = and_true (ltb h.tier (2 ^ 12)) _ a₅.1 in
     record {
       version = ltb-true _ _ a₁.0;
       algorithm = ltb-true _ _ a₃.0;
@@ -49,56 +49,56 @@ fitting h e =
       tiers = ltb-true _ _ a₆.0;
     }
 
-flag-fits : (b : Bool) → ltb (flagNumber b) (2 ^ 1) ≡ true
-flag-fits true = refl
-flag-fits false = refl
+flag_fits : (b : Bool) → ltb (flag_number b) (2 ^ 1) ≡ true
+flag_fits true = refl
+flag_fits false = refl
 
 -- the header with its command's length and type fits its fields
-pub fits-within : (h : SpliceInfoHeader) (size command-type : ℕ) → Fitting h → size < 2 ^ 12 → command-type < 2 ^ 8 → within (walk spliceHeader (headed h size command-type) 0).fields ≡ true
-unfolding headed spliceHeader number bit
-fits-within h size command-type f n k =
+pub fits_within : (h : SpliceInfoHeader) (size command_type : ℕ) → Fitting h → size < 2 ^ 12 → command_type < 2 ^ 8 → within (walk splice_header (headed h size command_type) 0).fields ≡ true
+unfolding headed splice_header number bit
+fits_within h size command_type f n k =
     rw (
       lt-ltb _ _ f.version,
-      flag-fits h.encrypted_packet,
+      flag_fits h.encrypted_packet,
       lt-ltb _ _ f.algorithm,
       lt-ltb _ _ f.adjustment,
       lt-ltb _ _ f.index,
       lt-ltb _ _ f.tiers,
       lt-ltb _ _ n,
-      command-laws.there command-type,
+      command_laws.there command_type,
       lt-ltb _ _ k,
     )
 
-no-views : (x : SpliceInfoHeader) → seen [] (walk spliceHeader x 0).fields ≡ true
-unfolding spliceHeader number bit
-no-views x = refl
+no_views : (x : SpliceInfoHeader) → seen [] (walk splice_header x 0).fields ≡ true
+unfolding splice_header number bit
+no_views x = refl
 
 -- ---- the header's bytes
-module _ (h : SpliceInfoHeader) (size command-type : ℕ) where
-  writable-headed : writableAlgorithm h.encryption_algorithm ≡ true → writableHeader (headed h size command-type) ≡ true
-  unfolding writableHeader headed
-  writable-headed a = rw (a, command-laws.is-writable command-type)
+module _ (h : SpliceInfoHeader) (size command_type : ℕ) where
+  writable_headed : writable_algorithm h.encryption_algorithm ≡ true → writable_header (headed h size command_type) ≡ true
+  unfolding writable_header headed
+  writable_headed a = rw (a, command_laws.is_writable command_type)
 
-  pub header-is-made : Fitting h → writableAlgorithm h.encryption_algorithm ≡ true → size < 2 ^ 12 → command-type < 2 ^ 8
-      → make spliceHeader (writableHeader (headed h size command-type)) [] (headed h size command-type) ≡ made (headerBytes (headed h size command-type))
-  unfolding headerBytes
-  header-is-made f a n k = rw (no-views (headed h size command-type), fits-within h size command-type f n k, writable-headed a)
+  pub header_is_made : Fitting h → writable_algorithm h.encryption_algorithm ≡ true → size < 2 ^ 12 → command_type < 2 ^ 8
+      → make splice_header (writable_header (headed h size command_type)) [] (headed h size command_type) ≡ made (header_bytes (headed h size command_type))
+  unfolding header_bytes
+  header_is_made f a n k = rw (no_views (headed h size command_type), fits_within h size command_type f n k, writable_headed a)
 
-pub length-header : (x : SpliceInfoHeader) → length (headerBytes x) ≡ 11
-unfolding headerBytes spliceHeader number bit
-length-header x = refl
+pub length_header : (x : SpliceInfoHeader) → length (header_bytes x) ≡ 11
+unfolding header_bytes splice_header number bit
+length_header x = refl
 
-pub length-opening : (n : ℕ) → length (opening n) ≡ 3
+pub length_opening : (n : ℕ) → length (opening n) ≡ 3
 unfolding opening
-length-opening n = refl
+length_opening n = refl
 
-pub length-head : (h : SpliceInfoHeader) (command-type size extent : ℕ) → length (head h command-type size extent) ≡ 14
+pub length_head : (h : SpliceInfoHeader) (command_type size extent : ℕ) → length (head h command_type size extent) ≡ 14
 unfolding head
-length-head h command-type size extent =
-    length-append (opening (sectionLength size extent)) (headerBytes (headed h size command-type)) ∙ omega (arith, length-opening (sectionLength size extent), length-header (headed h size command-type))
+length_head h command_type size extent =
+    length-append (opening (section_length size extent)) (header_bytes (headed h size command_type)) ∙ omega (arith, length_opening (section_length size extent), length_header (headed h size command_type))
 
-pub clear : (h : SpliceInfoHeader) → writableHead h ≡ true → (h.encrypted_packet ≡ false) × (writableAlgorithm h.encryption_algorithm ≡ true)
-unfolding writableHead
+pub clear : (h : SpliceInfoHeader) → writable_head h ≡ true → (h.encrypted_packet ≡ false) × (writable_algorithm h.encryption_algorithm ≡ true)
+unfolding writable_head
 clear h e =
-    let a = and-true (not h.encrypted_packet) _ e in
+    let a = and_true (not h.encrypted_packet) _ e in
     (not-true _ a.0, a.1)

@@ -5,37 +5,37 @@ use mathlib.Core.List.{List}
 use mathlib.Core.Path.{◌≡◌, ap, sym, ◌∙◌}
 use lib.ListN.{get_or}
 use borrow.Author.Tests.{not-true, not-false}
-use Rattle.canonical_form.specs.Command.{canonicalCommand}
-use Rattle.canonical_form.specs.Descriptor.{canonicalLoop}
-use Rattle.section.specs.Section.{commandType, commandBytes, frame_of}
+use Rattle.canonical_form.specs.Command.{canonical_command}
+use Rattle.canonical_form.specs.Descriptor.{canonical_loop}
+use Rattle.section.specs.Section.{command_type, command_bytes, frame_of}
 use Rattle.section.specs.declared.Frame.{Frame}
 use Rattle.section.specs.declared.FrameRead.{FrameRead}
-use Rattle.section.proofs.Framing.{command-viewed, loop-viewed}
+use Rattle.section.proofs.Framing.{command_viewed, loop_viewed}
 use Rattle.table.specs.Lent.{viewed}
-use Rattle.canonical_form.specs.Section.{canonicalFrame, canonicalSection}
+use Rattle.canonical_form.specs.Section.{canonical_frame, canonical_section}
 
 -- ---- the canonical form
-pub unframed : (s : List ℕ) → false ≡ canonicalFrame s → false ≡ canonicalSection s
-unfolding canonicalSection
+pub unframed : (s : List ℕ) → false ≡ canonical_frame s → false ≡ canonical_section s
+unfolding canonical_section
 unframed s e = rw (← e)
 
-module _ (s : List ℕ) (f : Bool) (ef : f ≡ canonicalFrame s) where
-  pub no-frame : not f ≡ true → false ≡ canonicalSection s
-  unfolding canonicalSection
-  no-frame h = rw (← ef, not-true f h)
+module _ (s : List ℕ) (f : Bool) (ef : f ≡ canonical_frame s) where
+  pub no_frame : not f ≡ true → false ≡ canonical_section s
+  unfolding canonical_section
+  no_frame h = rw (← ef, not-true f h)
 
-  module _ (on : not f ≡ false) (p : Frame) (laid : FrameRead.Is p ≡ frame_of s) (c : Bool) (ec : c ≡ canonicalCommand (get_or s 13 0) (viewed s p.command)) where
-    is_framed : canonicalFrame s ≡ true
+  module _ (on : not f ≡ false) (p : Frame) (laid : FrameRead.Is p ≡ frame_of s) (c : Bool) (ec : c ≡ canonical_command (get_or s 13 0) (viewed s p.command)) where
+    is_framed : canonical_frame s ≡ true
     is_framed = sym ef ∙ not-false f on
 
-    is-command : c ≡ canonicalCommand (commandType s) (commandBytes s)
-    unfolding commandType
-    is-command = ec ∙ ap (canonicalCommand (get_or s 13 0)) (command-viewed s p laid)
+    is_command : c ≡ canonical_command (command_type s) (command_bytes s)
+    unfolding command_type
+    is_command = ec ∙ ap (canonical_command (get_or s 13 0)) (command_viewed s p laid)
 
-    pub no-command : not c ≡ true → false ≡ canonicalSection s
-    unfolding canonicalSection
-    no-command h = rw (is_framed, ← is-command, not-true c h)
+    pub no_command_lem : not c ≡ true → false ≡ canonical_section s
+    unfolding canonical_section
+    no_command_lem h = rw (is_framed, ← is_command, not-true c h)
 
-    pub is-section : (l : Bool) → not c ≡ false → l ≡ canonicalLoop (viewed s p.descriptors) → l ≡ canonicalSection s
-    unfolding canonicalSection
-    is-section l h el = rw (is_framed, ← is-command, not-false c h) (el ∙ ap canonicalLoop (loop-viewed s p laid))
+    pub is_section : (l : Bool) → not c ≡ false → l ≡ canonical_loop (viewed s p.descriptors) → l ≡ canonical_section s
+    unfolding canonical_section
+    is_section l h el = rw (is_framed, ← is_command, not-false c h) (el ∙ ap canonical_loop (loop_viewed s p laid))

@@ -1,14 +1,14 @@
 // The section writer: header, command and loop as a section's bytes.
 ghost use Rattle.std.specs.Prelude.{◌≡◌, true, [], ◌+◌, ◌^◌, ◌<◌, ◌≤◌, length, take};
-ghost use Rattle.section_writer.specs.Frame.{head, numbersFit, writableHead};
-ghost use Rattle.section.specs.Section.{sectionLength, first, frame_of};
-ghost use Rattle.canonical_form.specs.Section.{canonicalFrame, canonicalSection};
+ghost use Rattle.section_writer.specs.Frame.{head, numbers_fit, writable_head};
+ghost use Rattle.section.specs.Section.{section_length, first, frame_of};
+ghost use Rattle.canonical_form.specs.Section.{canonical_frame, canonical_section};
 ghost use Rattle.command.specs.Command.{array};
-ghost use Rattle.command_measure.specs.Made.{commandMade};
-ghost use Rattle.bit_stores.specs.Written.{answer_of, laterOf};
-ghost use Rattle.section_writer.specs.Writing.{writerConditions, type_of, sectionMade};
+ghost use Rattle.command_measure.specs.Made.{command_made};
+ghost use Rattle.bit_stores.specs.Written.{answer_of, later_of};
+ghost use Rattle.section_writer.specs.Writing.{writer_conditions, type_of, section_made};
 ghost use Rattle.section.specs.declared.FrameRead.{FrameRead};
-ghost use Rattle.section_writer.specs.Private.{firstNumber, lastNumber, tail, answerSection};
+ghost use Rattle.section_writer.specs.Private.{first_number, last_number, tail, answer_section};
 ghost use Rattle.table.specs.Lent.{stored};
 
 use bit_stores::Written;
@@ -32,7 +32,7 @@ const MAX_INSIDE: usize = 4076;
 
 // Refusal 32: is each of the header's numbers within its field? Its command length and type are not looked at.
 fn numbers_fit(header: SpliceInfoHeader) -> bool
-    ensures { result ≡ numbersFit header }
+    ensures { result ≡ numbers_fit header }
 {
     let algorithm = header.encryption_algorithm;
     if 63 < algorithm.id() {
@@ -49,7 +49,7 @@ fn numbers_fit(header: SpliceInfoHeader) -> bool
 
 // Is there nothing of refusal 33: is it not encrypted, and its algorithm one that its own number stands for?
 fn is_writable_head(header: SpliceInfoHeader) -> bool
-    ensures { result ≡ writableHead header }
+    ensures { result ≡ writable_head header }
 {
     if header.encrypted_packet {
         return false;
@@ -61,7 +61,7 @@ fn is_writable_head(header: SpliceInfoHeader) -> bool
 // Refusals 31 to 35, in order of number, and 0 where none applies: of a header; of a command that its own writer gives the refusal r, or `size` bytes; and of
 // a loop of `extent` bytes.
 fn refusal_of(header: SpliceInfoHeader, r: u8, size: usize, extent: usize, canonical: bool) -> u8
-    ensures { result ≡ first 31 (writerConditions header r size extent canonical) }
+    ensures { result ≡ first 31 (writer_conditions header r size extent canonical) }
 {
     if r == 31 {
         return 31;
@@ -94,8 +94,8 @@ fn refusal_of(header: SpliceInfoHeader, r: u8, size: usize, extent: usize, canon
 
 // The first six bytes of a header that is not encrypted: version 8, encrypted 1, algorithm 6, pts_adjustment 33.
 fn first_number(header: SpliceInfoHeader) -> u64
-    requires { numbersFit header ≡ true }
-    ensures { result ≡ firstNumber header }
+    requires { numbers_fit header ≡ true }
+    ensures { result ≡ first_number header }
 {
     let algorithm = header.encryption_algorithm;
     (wide(header.protocol_version) * 128 + wide(algorithm.id())) * 0x2_0000_0000
@@ -104,8 +104,8 @@ fn first_number(header: SpliceInfoHeader) -> u64
 
 // Its last five: cw_index 8, tier 12, command length 12, command type 8.
 fn last_number(header: SpliceInfoHeader, command_type: u8, size: usize) -> u64
-    requires { (numbersFit header ≡ true) × (size < 2 ^ 12) }
-    ensures { result ≡ lastNumber header command_type size }
+    requires { (numbers_fit header ≡ true) × (size < 2 ^ 12) }
+    ensures { result ≡ last_number header command_type size }
 {
     ((wide(header.cw_index) * 4096 + header.tier as u64) * 4096 + size as u64) * 256
         + wide(command_type)
@@ -113,7 +113,7 @@ fn last_number(header: SpliceInfoHeader, command_type: u8, size: usize) -> u64
 
 // All before the command: 14 bytes. section_length counts the 20 bytes around command and loop less 3.
 fn put_head(out: &mut [u8], header: SpliceInfoHeader, command_type: u8, size: usize, extent: usize)
-    requires { (numbersFit header ≡ true) × (writableHead header ≡ true) × (sectionLength size extent ≤ 4096) × (14 ≤ length out.old) }
+    requires { (numbers_fit header ≡ true) × (writable_head header ≡ true) × (section_length size extent ≤ 4096) × (14 ≤ length out.old) }
     ensures { out.new ≡ stored out.old 0 (head header command_type size extent) }
 {
     put_number(out, 0, 3, 0xFC_3000 + (17 + size + extent) as u64);
@@ -155,7 +155,7 @@ fn answer_section(
     descriptors: &[u8],
     room: usize,
 ) -> Written
-    ensures { result ≡ answerSection header measured descriptors.now room }
+    ensures { result ≡ answer_section header measured descriptors.now room }
 {
     let canonical = is_canonical_loop(descriptors);
     let extent = descriptors.len();
@@ -180,8 +180,8 @@ pub fn write_section(
     descriptors: &[u8],
     target: &mut [u8],
 ) -> Written
-    ensures answer { result ≡ answer_of (sectionMade header (commandMade command components lent.now) (type_of command) descriptors.now) target.old }
-    ensures bytes { target.new ≡ laterOf (sectionMade header (commandMade command components lent.now) (type_of command) descriptors.now) target.old }
+    ensures answer { result ≡ answer_of (section_made header (command_made command components lent.now) (type_of command) descriptors.now) target.old }
+    ensures bytes { target.new ≡ later_of (section_made header (command_made command components lent.now) (type_of command) descriptors.now) target.old }
 {
     let measured = measure_command(command, components, lent);
     let size = measured.size;
@@ -205,8 +205,8 @@ pub fn write_section_without_components(
     descriptors: &[u8],
     target: &mut [u8],
 ) -> Written
-    ensures answer { result ≡ answer_of (sectionMade header (commandMade command (array []) lent.now) (type_of command) descriptors.now) target.old }
-    ensures bytes { target.new ≡ laterOf (sectionMade header (commandMade command (array []) lent.now) (type_of command) descriptors.now) target.old }
+    ensures answer { result ≡ answer_of (section_made header (command_made command (array []) lent.now) (type_of command) descriptors.now) target.old }
+    ensures bytes { target.new ≡ later_of (section_made header (command_made command (array []) lent.now) (type_of command) descriptors.now) target.old }
 {
     let measured = measure_without_components(command, lent);
     let size = measured.size;
@@ -227,7 +227,7 @@ pub fn write_section_without_components(
 // What the canonical form asks around command and loop of a section that has this frame.
 fn is_canonical_around(section: &[u8], frame: Frame) -> bool
     requires { FrameRead.Is frame ≡ frame_of section.now }
-    ensures { result ≡ canonicalFrame section.now }
+    ensures { result ≡ canonical_frame section.now }
 {
     let payload = frame.command;
     let end = COMMAND_AT + payload.len;
@@ -251,7 +251,7 @@ fn is_canonical_around(section: &[u8], frame: Frame) -> bool
 
 // What the canonical form asks of a section around its command and its loop.
 pub fn is_canonical_frame(section: &[u8]) -> bool
-    ensures { result ≡ canonicalFrame section.now }
+    ensures { result ≡ canonical_frame section.now }
 {
     match read_frame(section) {
         FrameRead::Is(frame) => return is_canonical_around(section, frame),
@@ -261,7 +261,7 @@ pub fn is_canonical_frame(section: &[u8]) -> bool
 
 // Is the section canonical: its frame, its command and its loop?
 pub fn is_canonical_section(section: &[u8]) -> bool
-    ensures { result ≡ canonicalSection section.now }
+    ensures { result ≡ canonical_section section.now }
 {
     let frame = match read_frame(section) {
         FrameRead::Is(f) => f,

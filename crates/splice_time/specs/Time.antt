@@ -1,7 +1,7 @@
 -- splice_time() and the adjusted time. 01, "Commands".
 use Rattle.std.specs.Prelude.{ℕ, ◌+◌, ◌%◌, ◌^◌, Bool, true, false, not, List, [], ltb}
 use Rattle.table.specs.Bits.{pick}
-use Rattle.table.specs.Cursor.{cursorAt}
+use Rattle.table.specs.Cursor.{cursor_at}
 use Rattle.table.specs.Table.{Table, done, uimsbf, flag, ones, Answer, got, short}
 use Rattle.splice_time.specs.declared.SpliceTime.{SpliceTime}
 use Rattle.splice_time.specs.declared.SpliceTime.TheVariants.{Immediate, Unspecified, At}
@@ -19,13 +19,13 @@ ticks Unspecified = 0
 ticks (At t) = t
 
 -- "splice_time. That is flag 1; if set, reserved 6, time 33; else reserved 7."
-unfoldable pub spliceTime : Table SpliceTime
-spliceTime =
-    flag specified λ time-specified.
-    pick time-specified
+unfoldable pub splice_time : Table SpliceTime
+splice_time =
+    flag specified λ time_specified.
+    pick time_specified
     (ones 6 (
-    uimsbf 33 ticks λ pts-time.
-    done (At pts-time)))
+    uimsbf 33 ticks λ pts_time.
+    done (At pts_time)))
     (ones 7 (
     done Unspecified))
 
@@ -35,18 +35,18 @@ immediate Unspecified = false
 immediate (At t) = false
 
 -- refusal 33: "an immediate time in a time signal"
-abbrev pub notImmediate : SpliceTime → Bool
-notImmediate t = not (immediate t)
+abbrev pub not_immediate : SpliceTime → Bool
+not_immediate t = not (immediate t)
 
 -- what a reader answers
-unfoldable pub timeRead : Answer SpliceTime → TimeRead
-timeRead (got t at) = TimeRead.Got (record { time = t; next = cursorAt at })
-timeRead (short expected actual) = TimeRead.Lacks (record { expected = expected; actual = actual })
+unfoldable pub time_read : Answer SpliceTime → TimeRead
+time_read (got t at) = TimeRead.Got (record { time = t; next = cursor_at at })
+time_read (short expected actual) = TimeRead.Lacks (record { expected = expected; actual = actual })
 
 -- 02, Q-2: "the adjusted time is the sum's remainder modulo 8,589,934,592" ("the carry out of the 33-bit addition is ignored").
 -- 01: "where a time is specified .. otherwise none". Refusal 32, first: a number that exceeds its field of 33 bits.
-unfoldable pub adjustedOf : SpliceTime → ℕ → AdjustedTime
-adjustedOf t adjustment =
+unfoldable pub adjusted_of : SpliceTime → ℕ → AdjustedTime
+adjusted_of t adjustment =
     pick (ltb adjustment (2 ^ 33))
     (pick (ltb (ticks t) (2 ^ 33))
     (pick (specified t) (AdjustedTime.At ((ticks t + adjustment) % 8589934592)) AdjustedTime.Nothing)

@@ -1,6 +1,6 @@
 // break_duration(): how long a break lasts, if it is flagged.
 ghost use Rattle.std.specs.Prelude.{◌≡◌, true, ◌*◌};
-ghost use Rattle.splice_time.specs.Break.{breakDuration, breakRead};
+ghost use Rattle.splice_time.specs.Break.{break_duration, break_read};
 ghost use Rattle.names.specs.declared.flags.ReturnMode.{ReturnMode};
 ghost use Rattle.table.specs.Bits.{pick, bits_of};
 ghost use Rattle.table.specs.Table.{parse};
@@ -44,7 +44,7 @@ fn returning(automatic: bool) -> ReturnMode
 }
 
 fn read_lasting(s: &[u8], at: usize) -> BreakRead
-    ensures { result ≡ breakRead (parse (breakDuration true) (bits_of s.now) (at * 8)) }
+    ensures { result ≡ break_read (parse (break_duration true) (bits_of s.now) (at * 8)) }
 {
     if s.len() <= at {
         return BreakRead::Lacks(Short {
@@ -71,7 +71,7 @@ fn read_lasting(s: &[u8], at: usize) -> BreakRead
 
 // A break_duration() if it is flagged.
 pub fn read_break(s: &[u8], at: usize, flagged: bool) -> BreakRead
-    ensures { result ≡ breakRead (parse (breakDuration flagged) (bits_of s.now) (at * 8)) }
+    ensures { result ≡ break_read (parse (break_duration flagged) (bits_of s.now) (at * 8)) }
 {
     if flagged {
         return read_lasting(s, at);

@@ -1,6 +1,6 @@
 // splice_time() and the adjusted time.
 ghost use Rattle.std.specs.Prelude.{◌≡◌, ◌*◌};
-ghost use Rattle.splice_time.specs.Time.{spliceTime, timeRead, adjustedOf};
+ghost use Rattle.splice_time.specs.Time.{splice_time, time_read, adjusted_of};
 ghost use Rattle.table.specs.Bits.{bits_of};
 ghost use Rattle.table.specs.Table.{parse};
 
@@ -32,7 +32,7 @@ pub enum TimeRead {
 
 // The splice_time() that starts with a byte, as all of the standard's do.
 pub fn read_aligned_time(s: &[u8], at: usize) -> TimeRead
-    ensures { result ≡ timeRead (parse spliceTime (bits_of s.now) (at * 8)) }
+    ensures { result ≡ time_read (parse splice_time (bits_of s.now) (at * 8)) }
 {
     if s.len() <= at {
         return TimeRead::Lacks(Short {
@@ -75,7 +75,7 @@ pub enum AdjustedTime {
 
 // The time plus the adjustment, of which each has 33 bits; the carry out of the 33 bits is ignored.
 pub fn adjusted_time(time: SpliceTime, pts_adjustment: u64) -> AdjustedTime
-    ensures { result ≡ adjustedOf time pts_adjustment }
+    ensures { result ≡ adjusted_of time pts_adjustment }
 {
     if 0x1_FFFF_FFFF < pts_adjustment {
         return AdjustedTime::TooLarge;

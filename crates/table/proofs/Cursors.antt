@@ -6,7 +6,7 @@ use mathlib.Core.Bool.{Bool}
 use mathlib.Core.List.{List}
 use mathlib.Core.Path.{◌≡◌}
 use Rattle.table.specs.Bits.{bits_of}
-use Rattle.table.specs.Cursor.{place, taken_of, flaggedOf, skippedOf, passedOf}
+use Rattle.table.specs.Cursor.{place, taken_of, flagged_of, skipped_of, passed_of}
 use Rattle.table.specs.Table.{Table, inside, number, bit, reserved, part, uimsbf, flag, ones, short, parse}
 use Rattle.table.specs.declared.View.{View}
 use Rattle.table.specs.declared.cursor.Cursor.{Cursor}
@@ -18,38 +18,38 @@ use Rattle.table.specs.declared.cursor.Run.{Run}
 use Rattle.table.specs.declared.cursor.Short.{Short}
 use Rattle.table.specs.declared.cursor.Skipped.{Skipped}
 use Rattle.table.specs.declared.cursor.Taken.{Taken}
-use Rattle.table.proofs.Steppings.{taken-got, taken-lacks, flagged-got, flagged-lacks, skipped-got, skipped-lacks, passed-got, passed-lacks}
-use Rattle.table.proofs.Steps.{takes-in, lacks-in}
+use Rattle.table.proofs.Steppings.{taken_got, taken_lacks, flagged_got, flagged_lacks, skipped_got, skipped_lacks, passed_got, passed_lacks}
+use Rattle.table.proofs.Steps.{takes_in, lacks_in}
 
 module _ {X : Type 0} (s : List ℕ) (at : ℕ) where
   pub goes_number : (w : ℕ) (p : X → ℕ) (k : ℕ → Table X) (n : Number) → w ≤ 64 → Taken.Got n ≡ taken_of (parse (number w) (bits_of s) at)
       → parse (uimsbf w p k) (bits_of s) at ≡ parse (k n.value) (bits_of s) (place n.next)
-  goes_number w p k n h e = takes-in (number w) p k (bits_of s) at n.value (place n.next) (taken-got s w at n h e).0
+  goes_number w p k n h e = takes_in (number w) p k (bits_of s) at n.value (place n.next) (taken_got s w at n h e).0
 
-  pub stops-number : (w : ℕ) (p : X → ℕ) (k : ℕ → Table X) (x : Short) → Taken.Lacks x ≡ taken_of (parse (number w) (bits_of s) at)
+  pub stops_number : (w : ℕ) (p : X → ℕ) (k : ℕ → Table X) (x : Short) → Taken.Lacks x ≡ taken_of (parse (number w) (bits_of s) at)
       → parse (uimsbf w p k) (bits_of s) at ≡ short x.expected x.actual
-  stops-number w p k x e = lacks-in (number w) p k (bits_of s) at x.expected x.actual (taken-lacks (parse (number w) (bits_of s) at) x e)
+  stops_number w p k x e = lacks_in (number w) p k (bits_of s) at x.expected x.actual (taken_lacks (parse (number w) (bits_of s) at) x e)
 
-  pub goes-flag : (p : X → Bool) (k : Bool → Table X) (f : Flag) → Flagged.Got f ≡ flaggedOf (parse bit (bits_of s) at)
+  pub goes_flag : (p : X → Bool) (k : Bool → Table X) (f : Flag) → Flagged.Got f ≡ flagged_of (parse bit (bits_of s) at)
       → parse (flag p k) (bits_of s) at ≡ parse (k f.set) (bits_of s) (place f.next)
-  goes-flag p k f e = takes-in bit p k (bits_of s) at f.set (place f.next) (flagged-got (parse bit (bits_of s) at) f e).0
+  goes_flag p k f e = takes_in bit p k (bits_of s) at f.set (place f.next) (flagged_got (parse bit (bits_of s) at) f e).0
 
-  pub stops-flag : (p : X → Bool) (k : Bool → Table X) (x : Short) → Flagged.Lacks x ≡ flaggedOf (parse bit (bits_of s) at)
+  pub stops_flag : (p : X → Bool) (k : Bool → Table X) (x : Short) → Flagged.Lacks x ≡ flagged_of (parse bit (bits_of s) at)
       → parse (flag p k) (bits_of s) at ≡ short x.expected x.actual
-  stops-flag p k x e = lacks-in bit p k (bits_of s) at x.expected x.actual (flagged-lacks (parse bit (bits_of s) at) x e)
+  stops_flag p k x e = lacks_in bit p k (bits_of s) at x.expected x.actual (flagged_lacks (parse bit (bits_of s) at) x e)
 
-  pub goes-ones : (w : ℕ) (t : Table X) (c : Cursor) → Skipped.Got c ≡ skippedOf (parse (reserved w) (bits_of s) at)
+  pub goes_ones : (w : ℕ) (t : Table X) (c : Cursor) → Skipped.Got c ≡ skipped_of (parse (reserved w) (bits_of s) at)
       → parse (ones w t) (bits_of s) at ≡ parse t (bits_of s) (place c)
-  goes-ones w t c e = takes-in (reserved w) (λ (x : X). tt) (λ u. t) (bits_of s) at tt (place c) (skipped-got (parse (reserved w) (bits_of s) at) c e).0
+  goes_ones w t c e = takes_in (reserved w) (λ (x : X). tt) (λ u. t) (bits_of s) at tt (place c) (skipped_got (parse (reserved w) (bits_of s) at) c e).0
 
-  pub stops-ones : (w : ℕ) (t : Table X) (x : Short) → Skipped.Lacks x ≡ skippedOf (parse (reserved w) (bits_of s) at)
+  pub stops_ones : (w : ℕ) (t : Table X) (x : Short) → Skipped.Lacks x ≡ skipped_of (parse (reserved w) (bits_of s) at)
       → parse (ones w t) (bits_of s) at ≡ short x.expected x.actual
-  stops-ones w t x e = lacks-in (reserved w) (λ (x : X). tt) (λ u. t) (bits_of s) at x.expected x.actual (skipped-lacks (parse (reserved w) (bits_of s) at) x e)
+  stops_ones w t x e = lacks_in (reserved w) (λ (x : X). tt) (λ u. t) (bits_of s) at x.expected x.actual (skipped_lacks (parse (reserved w) (bits_of s) at) x e)
 
-  pub goes-part : (n : ℕ) (q : X → View) (k : View → Table X) (r : Run) → Passed.Got r ≡ passedOf (parse (part n) (bits_of s) at)
+  pub goes_part : (n : ℕ) (q : X → View) (k : View → Table X) (r : Run) → Passed.Got r ≡ passed_of (parse (part n) (bits_of s) at)
       → parse (inside (part n) q k) (bits_of s) at ≡ parse (k r.bytes) (bits_of s) (place r.next)
-  goes-part n q k r e = takes-in (part n) q k (bits_of s) at r.bytes (place r.next) (passed-got (parse (part n) (bits_of s) at) r e).0
+  goes_part n q k r e = takes_in (part n) q k (bits_of s) at r.bytes (place r.next) (passed_got (parse (part n) (bits_of s) at) r e).0
 
-  pub stops-part : (n : ℕ) (q : X → View) (k : View → Table X) (x : Short) → Passed.Lacks x ≡ passedOf (parse (part n) (bits_of s) at)
+  pub stops_part : (n : ℕ) (q : X → View) (k : View → Table X) (x : Short) → Passed.Lacks x ≡ passed_of (parse (part n) (bits_of s) at)
       → parse (inside (part n) q k) (bits_of s) at ≡ short x.expected x.actual
-  stops-part n q k x e = lacks-in (part n) q k (bits_of s) at x.expected x.actual (passed-lacks (parse (part n) (bits_of s) at) x e)
+  stops_part n q k x e = lacks_in (part n) q k (bits_of s) at x.expected x.actual (passed_lacks (parse (part n) (bits_of s) at) x e)

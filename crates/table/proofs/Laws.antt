@@ -10,13 +10,13 @@ use lib.Dec.{leb, ltb}
 use lib.ListN.{length, take, drop, length-append, take-append-drop}
 use lib.Seq.{drop-drop}
 use borrow.Author.Tests.{leb-true, ltb-true, le-leb, lt-ltb}
-use Rattle.table.specs.Bits.{pick, bitsOfNum, bits_of, field}
+use Rattle.table.specs.Bits.{pick, bits_of_num, bits_of, field}
 use Rattle.table.specs.Table.{Table, done, uint, view, left, must, Answer, got, short, parse, canonical}
 use Rattle.table.specs.Writing.{Field, Walk, walk, seen, within, contents, print}
-use Rattle.table.proofs.Bits.{all-bits, length-num, length-bits, bits-append, bits-from}
-use Rattle.table.proofs.Fields.{field-bits, field_below, field-num}
-use Rattle.table.proofs.Lists.{zero_one, and-true}
-use Rattle.table.proofs.Walks.{past, Tight, view-length, print-length}
+use Rattle.table.proofs.Bits.{all_bits, length_num, length_bits, bits_append, bits_from}
+use Rattle.table.proofs.Fields.{field_bits, field_below, field_num}
+use Rattle.table.proofs.Lists.{zero_one, and_true}
+use Rattle.table.proofs.Walks.{past, Tight, view_length, print_length}
 
 -- ---- a field that is read is there
 there : {X : Type 0} (b : Bool) (r : Answer X) (e a : ℕ) (y : X) (m : ℕ) → pick b r (short e a) ≡ got y m → (b ≡ true) × (r ≡ got y m)
@@ -24,13 +24,13 @@ there true r e a y m h = (refl, h)
 there false r e a y m h = zero_one cc
 
 module _ {X : Type 0} (n : ℕ) (p : X → ℕ) (k : ℕ → Table X) (bs : List ℕ) (at : ℕ) (y : X) (m : ℕ) where
-  pub field-there : parse (uint n p k) bs at ≡ got y m → (at + n ≤ length bs) × (parse (k (field bs at n)) bs (at + n) ≡ got y m)
-  field-there e =
+  pub field_there : parse (uint n p k) bs at ≡ got y m → (at + n ≤ length bs) × (parse (k (field bs at n)) bs (at + n) ≡ got y m)
+  field_there e =
       let i = there (leb (at + n) (length bs)) (parse (k (field bs at n)) bs (at + n)) (n / 8) ((length bs - at) / 8) y m e in
       (leb-true _ _ i.0, i.1)
 
-  pub view-there : parse (view n p k) bs at ≡ got y m → (at + n * 8 ≤ length bs) × (parse (k (at / 8)) bs (at + n * 8) ≡ got y m)
-  view-there e =
+  pub view_there : parse (view n p k) bs at ≡ got y m → (at + n * 8 ≤ length bs) × (parse (k (at / 8)) bs (at + n * 8) ≡ got y m)
+  view_there e =
       let i = there (leb (at + n * 8) (length bs)) (parse (k (at / 8)) bs (at + n * 8)) 1 0 y m e in
       (leb-true _ _ i.0, i.1)
 
@@ -47,19 +47,19 @@ module _ {X : Type 0} (lent : List ℕ) (x : X) (bs r : List ℕ) where
       → seen lent (walk t x at).fields ≡ true → within (walk t x at).fields ≡ true → Tight (walk t x at).fields at (length r) → Forth t bs x at
   forth (done y) at pre e l s w g = record { reads = refl; form = λ c. refl }
   forth (uint n p k) at pre e l s w g =
-      let a = and-true (ltb (p x) (2 ^ n)) _ w in
+      let a = and_true (ltb (p x) (2 ^ n)) _ w in
       let more = print (contents lent (walk (k (p x)) x (at + n)).fields) in
-      let e₂ : bs ≡ (pre ++ bitsOfNum n (p x)) ++ more ++ r = e ∙ simp append_assoc in
-      let e₃ : bs ≡ pre ++ bitsOfNum n (p x) ++ (more ++ r) = e₂ ∙ append_assoc (pre ++ bitsOfNum n (p x)) more r in
-      let l₂ : length (pre ++ bitsOfNum n (p x)) ≡ at + n = length-append pre (bitsOfNum n (p x)) ∙ omega (arith, length-num n (p x)) in
-      let i = forth (k (p x)) (at + n) (pre ++ bitsOfNum n (p x)) e₂ l₂ s a.1 g in
-      let f : field bs at n ≡ p x = ap (λ (l : List ℕ). field l at n) e₃ ∙ field-num pre (more ++ r) at n (p x) l (ltb-true _ _ a.0) in
-      let h : at + n ≤ length bs = room bs pre (bitsOfNum n (p x)) (more ++ r) at n e₃ l (length-num n (p x)) in
+      let e₂ : bs ≡ (pre ++ bits_of_num n (p x)) ++ more ++ r = e ∙ simp append_assoc in
+      let e₃ : bs ≡ pre ++ bits_of_num n (p x) ++ (more ++ r) = e₂ ∙ append_assoc (pre ++ bits_of_num n (p x)) more r in
+      let l₂ : length (pre ++ bits_of_num n (p x)) ≡ at + n = length-append pre (bits_of_num n (p x)) ∙ omega (arith, length_num n (p x)) in
+      let i = forth (k (p x)) (at + n) (pre ++ bits_of_num n (p x)) e₂ l₂ s a.1 g in
+      let f : field bs at n ≡ p x = ap (λ (l : List ℕ). field l at n) e₃ ∙ field_num pre (more ++ r) at n (p x) l (ltb-true _ _ a.0) in
+      let h : at + n ≤ length bs = room bs pre (bits_of_num n (p x)) (more ++ r) at n e₃ l (length_num n (p x)) in
       record { reads = rw (le-leb (at + n) (length bs) h, f) i.reads; form = λ c. rw f (i.form c) }
   forth (view n p k) at pre e l s w g =
-      let a = and-true (leb (p x + n) (length lent)) _ s in
+      let a = and_true (leb (p x + n) (length lent)) _ s in
       let b = bits_of (take n (drop (p x) lent)) in
-      let m : length b ≡ n * 8 = view-length n (p x) lent (leb-true _ _ a.0) in
+      let m : length b ≡ n * 8 = view_length n (p x) lent (leb-true _ _ a.0) in
       let more = print (contents lent (walk (k (at / 8)) x (at + n * 8)).fields) in
       let e₂ : bs ≡ (pre ++ b) ++ more ++ r = e ∙ simp append_assoc in
       let l₂ : length (pre ++ b) ≡ at + n * 8 = length-append pre b ∙ omega arith in
@@ -70,12 +70,12 @@ module _ {X : Type 0} (lent : List ℕ) (x : X) (bs r : List ℕ) where
       let i = forth (k (p x)) at pre e l s w g.1 in
       let fs = (walk (k (p x)) x at).fields in
       let m : length bs - at ≡ past fs at + length r - at =
-      omega (arith, ap length e, length-append (pre ++ print (contents lent fs)) r, length-append pre (print (contents lent fs)), print-length lent fs at s) in
+      omega (arith, ap length e, length-append (pre ++ print (contents lent fs)) r, length-append pre (print (contents lent fs)), print_length lent fs at s) in
       let f : (length bs - at) / 8 ≡ p x = rw m (sym g.0) in
       record { reads = rw f i.reads; form = λ c. rw f (i.form c) }
   forth (must b t) at pre e l s w g =
       let i = forth t at pre e l s w g in
-      record { reads = i.reads; form = λ c. let a = and-true b _ c in rw a.0 (i.form a.1) }
+      record { reads = i.reads; form = λ c. let a = and_true b _ c in rw a.0 (i.form a.1) }
 
 -- ---- what makes a table an invertible one: at each end of it, every field is found again in the reading, and the reading has P.
 -- The fields are those of the canonical form, and at each view a byte begins
@@ -105,14 +105,14 @@ module _ {X : Type 0} (s : List ℕ) (x : X) (m : ℕ) where
       record { tells = rw (i, j) at f; prints = rw j; views = refl; widths = refl; writable = refl; same = i; ends = j }
   back (uint w p k) at P l e c f =
       let bs = bits_of s in
-      let j = field-there w p k bs at x m e in
+      let j = field_there w p k bs at x m e in
       let v = field bs at w in
-      let n : v < 2 ^ w = field_below bs at w (all-bits s) j.0 in
+      let n : v < 2 ^ w = field_below bs at w (all_bits s) j.0 in
       let i = back (k v) (at + w) (λ a y. P a y × (p y ≡ v)) j.0 j.1 c (f v n) in
       let o : p x ≡ v = i.tells.1 in
       record {
         tells = i.tells.0;
-        prints = rw (o, append_assoc) (ap (λ (l : List ℕ). bitsOfNum w v ++ l) i.prints ∙ field-bits bs at w (all-bits s) j.0);
+        prints = rw (o, append_assoc) (ap (λ (l : List ℕ). bits_of_num w v ++ l) i.prints ∙ field_bits bs at w (all_bits s) j.0);
         views = rw o i.views;
         widths = rw (o, lt-ltb v (2 ^ w) n) i.widths;
         writable = rw o i.writable;
@@ -121,21 +121,21 @@ module _ {X : Type 0} (s : List ℕ) (x : X) (m : ℕ) where
       }
   back (view n p k) at P l e c f =
       let bs = bits_of s in
-      let j = view-there n p k bs at x m e in
+      let j = view_there n p k bs at x m e in
       let h : at + n * 8 ≤ length bs = j.0 in
       let b = at / 8 in
       let i = back (k b) (at + n * 8) (λ a y. P a y × (p y ≡ b)) h j.1 c f.1 in
       let o : p x ≡ b = i.tells.1 in
       let z : at ≡ b * 8 = omega (arith, f.0) in
       let z₂ : at + n * 8 ≡ (b + n) * 8 = omega arith in
-      let u : b + n ≤ length s = omega (arith, length-bits s) in
-      let d : drop at bs ≡ bits_of (drop b s) = ap (λ (j : ℕ). drop j bs) z ∙ bits-from b s in
-      let d₂ : drop (at + n * 8) bs ≡ bits_of (drop n (drop b s)) = ap (λ (j : ℕ). drop j bs) z₂ ∙ bits-from (b + n) s ∙ rw (drop-drop n b s) in
+      let u : b + n ≤ length s = omega (arith, length_bits s) in
+      let d : drop at bs ≡ bits_of (drop b s) = ap (λ (j : ℕ). drop j bs) z ∙ bits_from b s in
+      let d₂ : drop (at + n * 8) bs ≡ bits_of (drop n (drop b s)) = ap (λ (j : ℕ). drop j bs) z₂ ∙ bits_from (b + n) s ∙ rw (drop-drop n b s) in
       record {
         tells = i.tells.0;
         prints = rw (o, append_assoc)
             (ap (λ (l : List ℕ). bits_of (take n (drop b s)) ++ l) (i.prints ∙ d₂)
-            ∙ sym (bits-append (take n (drop b s)) (drop n (drop b s))) ∙ ap bits_of (take-append-drop n (drop b s)) ∙ sym d);
+            ∙ sym (bits_append (take n (drop b s)) (drop n (drop b s))) ∙ ap bits_of (take-append-drop n (drop b s)) ∙ sym d);
         views = rw (o, le-leb (b + n) (length s) u) i.views;
         widths = i.widths;
         writable = i.writable;
@@ -156,7 +156,7 @@ module _ {X : Type 0} (s : List ℕ) (x : X) (m : ℕ) where
         ends = rw o i.ends;
       }
   back (must b t) at P l e c f =
-      let a = and-true b _ c in
+      let a = and_true b _ c in
       let i = back t at P l e a.1 (f a.0) in
       record {
         tells = i.tells;

@@ -4,14 +4,14 @@ use Rattle.std.specs.Prelude.{ℕ, zero, suc, ◌+◌, ◌*◌, ◌/◌, ◌%◌
 pub use Rattle.std.specs.Prelude.{cond as pick}
 
 -- the low w bits of a number
-abbrev pub bitsOfNum : ℕ → ℕ → List ℕ
-bitsOfNum zero v = []
-bitsOfNum (suc w) v = v / 2 ^ w % 2 ∷ bitsOfNum w v
+abbrev pub bits_of_num : ℕ → ℕ → List ℕ
+bits_of_num zero v = []
+bits_of_num (suc w) v = v / 2 ^ w % 2 ∷ bits_of_num w v
 
 -- the bits of bytes
 abbrev pub bits_of : List ℕ → List ℕ
 bits_of [] = []
-bits_of (b ∷ bs) = bitsOfNum 8 b ++ bits_of bs
+bits_of (b ∷ bs) = bits_of_num 8 b ++ bits_of bs
 
 -- the number whose bits are those of acc and then these
 abbrev pub num : ℕ → List ℕ → ℕ
@@ -23,17 +23,17 @@ abbrev pub field : List ℕ → ℕ → ℕ → ℕ
 field bs at w = num 0 (take w (drop at bs))
 
 -- bits as bytes, eight at a time: n of them, and all
-abbrev pub bytesN : ℕ → List ℕ → List ℕ
-bytesN zero bs = []
-bytesN (suc n) bs = field bs 0 8 ∷ bytesN n (drop 8 bs)
+abbrev pub bytes_n : ℕ → List ℕ → List ℕ
+bytes_n zero bs = []
+bytes_n (suc n) bs = field bs 0 8 ∷ bytes_n n (drop 8 bs)
 
 abbrev pub bytes_of : List ℕ → List ℕ
-bytes_of bs = bytesN (length bs / 8) bs
+bytes_of bs = bytes_n (length bs / 8) bs
 
 -- the low n bytes of a number, the high one first
-abbrev pub bigEndian : ℕ → ℕ → List ℕ
-bigEndian zero v = []
-bigEndian (suc n) v = v / 2 ^ (n * 8) % 256 ∷ bigEndian n v
+abbrev pub big_endian : ℕ → ℕ → List ℕ
+big_endian zero v = []
+big_endian (suc n) v = v / 2 ^ (n * 8) % 256 ∷ big_endian n v
 
 -- all are bytes
 abbrev pub AllBytes : List ℕ → Type 0

@@ -12,22 +12,22 @@ use Rattle.table.specs.declared.cursor.Taken.{Taken}
 unfoldable pub place : Cursor → ℕ
 place c = c.byte * 8 + c.bit
 
-unfoldable pub cursorAt : ℕ → Cursor
-cursorAt at = record { byte = at / 8; bit = at % 8 }
+unfoldable pub cursor_at : ℕ → Cursor
+cursor_at at = record { byte = at / 8; bit = at % 8 }
 
 -- a number, as far as 64 bits hold it
 unfoldable pub taken_of : Answer ℕ → Taken
-taken_of (got v at) = Taken.Got (record { value = v % 2 ^ 64; next = cursorAt at })
+taken_of (got v at) = Taken.Got (record { value = v % 2 ^ 64; next = cursor_at at })
 taken_of (short expected actual) = Taken.Lacks (record { expected = expected; actual = actual })
 
-unfoldable pub flaggedOf : Answer Bool → Flagged
-flaggedOf (got b at) = Flagged.Got (record { set = b; next = cursorAt at })
-flaggedOf (short expected actual) = Flagged.Lacks (record { expected = expected; actual = actual })
+unfoldable pub flagged_of : Answer Bool → Flagged
+flagged_of (got b at) = Flagged.Got (record { set = b; next = cursor_at at })
+flagged_of (short expected actual) = Flagged.Lacks (record { expected = expected; actual = actual })
 
-unfoldable pub skippedOf : Answer (Unit {0}) → Skipped
-skippedOf (got u at) = Skipped.Got (cursorAt at)
-skippedOf (short expected actual) = Skipped.Lacks (record { expected = expected; actual = actual })
+unfoldable pub skipped_of : Answer (Unit {0}) → Skipped
+skipped_of (got u at) = Skipped.Got (cursor_at at)
+skipped_of (short expected actual) = Skipped.Lacks (record { expected = expected; actual = actual })
 
-unfoldable pub passedOf : Answer View → Passed
-passedOf (got v at) = Passed.Got (record { bytes = v; next = cursorAt at })
-passedOf (short expected actual) = Passed.Lacks (record { expected = expected; actual = actual })
+unfoldable pub passed_of : Answer View → Passed
+passed_of (got v at) = Passed.Got (record { bytes = v; next = cursor_at at })
+passed_of (short expected actual) = Passed.Lacks (record { expected = expected; actual = actual })

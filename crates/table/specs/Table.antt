@@ -31,12 +31,12 @@ unfoldable pub number : ℕ → Table ℕ
 number w = uint w (λ v. v) done
 
 -- a flag of one bit
-abbrev pub flagNumber : Bool → ℕ
-flagNumber true = 1
-flagNumber false = 0
+abbrev pub flag_number : Bool → ℕ
+flag_number true = 1
+flag_number false = 0
 
 unfoldable pub bit : Table Bool
-bit = uint 1 flagNumber λ v. done (eqb v 1)
+bit = uint 1 flag_number λ v. done (eqb v 1)
 
 -- w reserved bits: any when read, all 1 in the canonical form
 unfoldable pub reserved : ℕ → Table (Unit {0})
@@ -93,10 +93,10 @@ canonical (left p k) bs at = canonical (k ((length bs - at) / 8)) bs at
 canonical (must b t) bs at = b && canonical t bs at
 
 -- the table's fields take all of the bytes: none is missing, and none is spare
-abbrev pub takesAll : {X : Type 0} → Answer X → List ℕ → Bool
-takesAll (got x at) s = eqb at (length s * 8)
-takesAll (short expected actual) s = false
+abbrev pub takes_all : {X : Type 0} → Answer X → List ℕ → Bool
+takes_all (got x at) s = eqb at (length s * 8)
+takes_all (short expected actual) s = false
 
 -- read, every reserved bit 1, and no spare byte
-unfoldable pub canonicalBy : {X : Type 0} → Table X → List ℕ → Bool
-canonicalBy t s = takesAll (parse t (bits_of s) 0) s && canonical t (bits_of s) 0
+unfoldable pub canonical_by : {X : Type 0} → Table X → List ℕ → Bool
+canonical_by t s = takes_all (parse t (bits_of s) 0) s && canonical t (bits_of s) 0

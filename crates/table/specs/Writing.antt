@@ -1,7 +1,7 @@
 -- Writing by a table, and when two readings are equal.
 use Rattle.std.specs.Prelude.{ℕ, zero, suc, ◌+◌, ◌*◌, ◌/◌, ◌^◌, Bool, true, false, ◌&&◌, List, [], ◌∷◌, ◌++◌, ◌≡◌, ltb, take, drop}
-use Rattle.table.specs.Bits.{pick, bitsOfNum, bits_of, bytes_of}
-use Rattle.table.specs.Lent.{liesIn}
+use Rattle.table.specs.Bits.{pick, bits_of_num, bits_of, bytes_of}
+use Rattle.table.specs.Lent.{lies_in}
 use Rattle.table.specs.Table.{Table, done, uint, view, left, must}
 
 -- what a value has in one field: a number in w bits, n of the lent bytes from an offset on, or how many bytes are left
@@ -35,7 +35,7 @@ walk (must b t) x at = asking b (walk t x at)
 abbrev pub seen : List ℕ → List Field → Bool
 seen lent [] = true
 seen lent (bits w v ∷ fs) = seen lent fs
-seen lent (run n from ∷ fs) = liesIn lent (record { at = from; len = n }) && seen lent fs
+seen lent (run n from ∷ fs) = lies_in lent (record { at = from; len = n }) && seen lent fs
 seen lent (rest m ∷ fs) = seen lent fs
 
 -- refusal 32: is each number within its field?
@@ -65,14 +65,14 @@ abbrev pub Same : {X : Type 0} → Table X → List ℕ → X → List ℕ → X
 Same t s x r y = contents s (walk t x 0).fields ≡ contents r (walk t y 0).fields
 
 -- the bits of contents, one after the other
-abbrev pub bitsIn : Content → List ℕ
-bitsIn (number w v) = bitsOfNum w v
-bitsIn (bytes b) = bits_of b
-bitsIn (count m) = []
+abbrev pub bits_in : Content → List ℕ
+bits_in (number w v) = bits_of_num w v
+bits_in (bytes b) = bits_of b
+bits_in (count m) = []
 
 abbrev pub print : List Content → List ℕ
 print [] = []
-print (c ∷ cs) = bitsIn c ++ print cs
+print (c ∷ cs) = bits_in c ++ print cs
 
 -- what is made of a value: its bytes, or the number of a refusal
 pub data Made : Type 0 where
@@ -80,17 +80,17 @@ pub data Made : Type 0 where
   refused : ℕ → Made
 
 -- 0, or the number of the refusal; the bytes, or none
-abbrev pub refusalIn : Made → ℕ
-refusalIn (made b) = 0
-refusalIn (refused n) = n
+abbrev pub refusal_in : Made → ℕ
+refusal_in (made b) = 0
+refusal_in (refused n) = n
 
-unfoldable pub bytesIn : Made → List ℕ
-bytesIn (made b) = b
-bytesIn (refused n) = []
+unfoldable pub bytes_in : Made → List ℕ
+bytes_in (made b) = b
+bytes_in (refused n) = []
 
 -- 31, 32, 33 in that order; `writable` is what the structure's own rules say of 33
-abbrev pub makeOf : Bool → List ℕ → List Field → Made
-makeOf writable lent fs =
+abbrev pub make_of : Bool → List ℕ → List Field → Made
+make_of writable lent fs =
     pick (seen lent fs)
     (pick (within fs)
     (pick writable (made (bytes_of (print (contents lent fs))))
@@ -99,4 +99,4 @@ makeOf writable lent fs =
     (refused 31)
 
 abbrev pub make : {X : Type 0} → Table X → Bool → List ℕ → X → Made
-make t writable lent x = makeOf writable lent (walk t x 0).fields
+make t writable lent x = make_of writable lent (walk t x 0).fields

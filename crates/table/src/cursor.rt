@@ -1,7 +1,7 @@
 // A cursor in lent bytes, by value: a bit position, and a step for each kind of field that answers the next position.
 ghost use Rattle.std.specs.Prelude.{◌≡◌, ◌*◌, ◌-◌, ◌/◌, length};
 ghost use Rattle.table.specs.Bits.{bits_of};
-ghost use Rattle.table.specs.Cursor.{place, taken_of, flaggedOf, skippedOf, passedOf};
+ghost use Rattle.table.specs.Cursor.{place, taken_of, flagged_of, skipped_of, passed_of};
 ghost use Rattle.table.specs.Table.{number, bit, reserved, part, parse};
 
 use crate::View;
@@ -121,7 +121,7 @@ impl Cursor {
 
     // The flag in the next bit.
     pub fn flag(self, s: &[u8]) -> Flagged
-        ensures { result ≡ flaggedOf (parse bit (bits_of s.now) (place self)) }
+        ensures { result ≡ flagged_of (parse bit (bits_of s.now) (place self)) }
     {
         match self.take(s, 1) {
             Taken::Got(n) => {
@@ -137,7 +137,7 @@ impl Cursor {
 
     // Past w reserved bits.
     pub fn skip(self, s: &[u8], w: usize) -> Skipped
-        ensures { result ≡ skippedOf (parse (reserved w) (bits_of s.now) (place self)) }
+        ensures { result ≡ skipped_of (parse (reserved w) (bits_of s.now) (place self)) }
     {
         match self.take(s, w) {
             Taken::Got(n) => {
@@ -150,7 +150,7 @@ impl Cursor {
 
     // The next n bytes, as they lie from a byte's first bit on.
     pub fn pass(self, s: &[u8], n: usize) -> Passed
-        ensures { result ≡ passedOf (parse (part n) (bits_of s.now) (place self)) }
+        ensures { result ≡ passed_of (parse (part n) (bits_of s.now) (place self)) }
     {
         let byte = self.byte;
         let bit = self.bit;

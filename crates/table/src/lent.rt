@@ -1,12 +1,12 @@
 // The bytes of a view, as a part of those that were lent.
 ghost use Rattle.std.specs.Prelude.{◌≡◌};
-ghost use Rattle.table.specs.Lent.{liesIn, viewed};
+ghost use Rattle.table.specs.Lent.{lies_in, viewed};
 
 use crate::View;
 
 // Whether a view lies in the lent bytes. Its offset and length are summed without wrapping.
 pub fn lies_in(lent: &[u8], v: View) -> bool
-    ensures { result ≡ liesIn lent.now v }
+    ensures { result ≡ lies_in lent.now v }
 {
     let at = v.at;
     let len = v.len;

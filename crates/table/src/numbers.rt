@@ -1,7 +1,7 @@
 // Numbers in bytes. Each function answers on any slice and any place: what lies past the end is not there.
 ghost use Rattle.std.specs.Prelude.{◌≡◌, ◌+◌, ◌*◌, ◌%◌, ◌^◌, ◌<◌, ◌≤◌, get_or};
 ghost use Rattle.table.specs.Bits.{bits_of, field};
-ghost use Rattle.table.specs.Table.{flagNumber};
+ghost use Rattle.table.specs.Table.{flag_number};
 
 // A byte as a number that has room for more.
 pub fn wide(b: u8) -> u64
@@ -19,7 +19,7 @@ pub fn size(b: u8) -> usize
 
 // A flag as a number of one bit.
 pub fn flag_number(set: bool) -> u64
-    ensures { (result ≡ flagNumber set) × (result ≤ 1) }
+    ensures { (result ≡ flag_number set) × (result ≤ 1) }
 {
     if set { 1 } else { 0 }
 }

@@ -1,6 +1,6 @@
 // Stores into a lent target. What does not fit is not stored: no byte changes.
 ghost use Rattle.std.specs.Prelude.{◌≡◌, [], ◌∷◌};
-ghost use Rattle.table.specs.Bits.{bigEndian};
+ghost use Rattle.table.specs.Bits.{big_endian};
 ghost use Rattle.table.specs.Lent.{stored};
 
 // One byte.
@@ -14,7 +14,7 @@ pub fn put_byte(out: &mut [u8], at: usize, b: u8)
 
 // The low n bytes of a number, the high one first.
 pub fn put_number(out: &mut [u8], at: usize, n: usize, v: u64)
-    ensures { out.new ≡ stored out.old at (bigEndian n v) }
+    ensures { out.new ≡ stored out.old at (big_endian n v) }
 {
     if out.len() < at {
         return;

@@ -10,147 +10,147 @@ use mathlib.Core.Path.{◌≡◌, refl, ap, sym, subst, ◌∙◌}
 use native.Mathlib.Omega.{arith}
 use lib.Dec.{eqb, lit<}
 use lib.ListN.{length, take}
-use Rattle.c_command_writer.proofs.Answers as command-answers
+use Rattle.c_command_writer.proofs.Answers as command_answers
 use Rattle.c_command_writer.proofs.Given.{same_at}
-use Rattle.c_command_writer.specs.CommandGiven.{commandGiven, componentsFrom, commandRefusal, commandWordsMade}
-use Rattle.c_command_writer.specs.CommandWords.{commandWords, CommandIs}
-use Rattle.c_command_writer.specs.Words.{word, same, noLess}
-use Rattle.c_section.specs.FlatCommand.{flatCommand, flatCommandRead, noCommand}
-use Rattle.c_section_writer.specs.SectionGiven.{headerFrom, sectionWordsMade}
-use Rattle.canonical_form.specs.Same.{withoutPlace}
+use Rattle.c_command_writer.specs.CommandGiven.{command_given, components_from, command_refusal, command_words_made}
+use Rattle.c_command_writer.specs.CommandWords.{command_words, CommandIs}
+use Rattle.c_command_writer.specs.Words.{word, same, no_less}
+use Rattle.c_section.specs.FlatCommand.{flat_command, flat_command_read, no_command}
+use Rattle.c_section_writer.specs.SectionGiven.{header_from, section_words_made}
+use Rattle.canonical_form.specs.Same.{without_place}
 use Rattle.command.specs.Command as command
-use Rattle.command.specs.Command.{array, commandOf, type_of}
+use Rattle.command.specs.Command.{array, command_of, type_of}
 use Rattle.command.specs.declared.CommandRead.{CommandRead}
 use Rattle.command.specs.declared.SpliceCommand.{SpliceCommand}
 use Rattle.command.specs.declared.components.InsertComponent.{InsertComponent}
-use Rattle.command_measure.specs.Made.{commandMade}
+use Rattle.command_measure.specs.Made.{command_made}
 use Rattle.header.specs.declared.header.SpliceInfoHeader.{SpliceInfoHeader}
-use Rattle.section.specs.Section.{commandType, commandBytes, moved, frameTests, unknownCommand, malformedCommand, conditions, first, None}
+use Rattle.section.specs.Section.{command_type, command_bytes, moved, frame_tests, unknown_command, malformed_command, conditions, first, None}
 use Rattle.section.specs.declared.Refusal.{Refusal}
 use Rattle.table.proofs.Lists.{zero_one}
 use Rattle.table.specs.Bits.{AllBytes}
 use Rattle.table.specs.Lent.{placeless}
 use Rattle.table.specs.Writing.{Made, made, refused}
-use Rattle.theorems_functions.proofs.Theorems.{payload-of}
+use Rattle.theorems_functions.proofs.Theorems.{payload_of_lem}
 use Rattle.theorems_functions.proofs.WrittenOverC as written
 use Rattle.theorems_writer.proofs.Theorems as writing
 use Rattle.theorems_writer.specs.Making.{CommandPayload, CommandMakes, SectionMakes}
-use Rattle.theorems_answers.specs.Words.{movedBy, PayloadOf}
+use Rattle.theorems_answers.specs.Words.{moved_by, PayloadOf}
 
 -- ---- the words of a command that is read
 
-pub moved-flat : (c : SpliceCommand) → flatCommand (moved 14 c) ≡ movedBy 14 (flatCommand c)
-unfolding moved flatCommand noCommand
-moved-flat SpliceCommand.SpliceNull = refl
-moved-flat (SpliceCommand.SpliceInsert i) = refl
-moved-flat (SpliceCommand.TimeSignal t) = refl
-moved-flat SpliceCommand.BandwidthReservation = refl
-moved-flat (SpliceCommand.PrivateCommand p) = refl
+pub moved_flat : (c : SpliceCommand) → flat_command (moved 14 c) ≡ moved_by 14 (flat_command c)
+unfolding moved flat_command no_command
+moved_flat SpliceCommand.SpliceNull = refl
+moved_flat (SpliceCommand.SpliceInsert i) = refl
+moved_flat (SpliceCommand.TimeSignal t) = refl
+moved_flat SpliceCommand.BandwidthReservation = refl
+moved_flat (SpliceCommand.PrivateCommand p) = refl
 
-pub flat-number : (r : CommandRead) → (flatCommandRead r).refusal ≡ command.number_of r
-unfolding flatCommandRead flatCommand noCommand
-flat-number (CommandRead.Is SpliceCommand.SpliceNull) = refl
-flat-number (CommandRead.Is (SpliceCommand.SpliceInsert i)) = refl
-flat-number (CommandRead.Is (SpliceCommand.TimeSignal t)) = refl
-flat-number (CommandRead.Is SpliceCommand.BandwidthReservation) = refl
-flat-number (CommandRead.Is (SpliceCommand.PrivateCommand p)) = refl
-flat-number CommandRead.UnknownType = refl
-flat-number CommandRead.Malformed = refl
+pub flat_number : (r : CommandRead) → (flat_command_read r).refusal ≡ command.number_of r
+unfolding flat_command_read flat_command no_command
+flat_number (CommandRead.Is SpliceCommand.SpliceNull) = refl
+flat_number (CommandRead.Is (SpliceCommand.SpliceInsert i)) = refl
+flat_number (CommandRead.Is (SpliceCommand.TimeSignal t)) = refl
+flat_number (CommandRead.Is SpliceCommand.BandwidthReservation) = refl
+flat_number (CommandRead.Is (SpliceCommand.PrivateCommand p)) = refl
+flat_number CommandRead.UnknownType = refl
+flat_number CommandRead.Malformed = refl
 
 -- ---- its refusal, behind 1 to 9
 
-first-after : (n : ℕ) (bs cs : List Bool) → None bs → first n (bs ++ cs) ≡ first (n + length bs) cs
-first-after n [] cs h = let e : n ≡ n + 0 = omega arith in ap (λ (k : ℕ). first k cs) e
-first-after n (true ∷ bs) cs h = zero_one cc
-first-after n (false ∷ bs) cs h = let e : suc n + length bs ≡ n + suc (length bs) = omega arith in first-after (suc n) bs cs h.1 ∙ ap (λ (k : ℕ). first k cs) e
+first_after : (n : ℕ) (bs cs : List Bool) → None bs → first n (bs ++ cs) ≡ first (n + length bs) cs
+first_after n [] cs h = let e : n ≡ n + 0 = omega arith in ap (λ (k : ℕ). first k cs) e
+first_after n (true ∷ bs) cs h = zero_one cc
+first_after n (false ∷ bs) cs h = let e : suc n + length bs ≡ n + suc (length bs) = omega arith in first_after (suc n) bs cs h.1 ∙ ap (λ (k : ℕ). first k cs) e
 
-last-two : (r : CommandRead) → first 10 (eqb (command.number_of r) 10 ∷ eqb (command.number_of r) 11 ∷ []) ≡ command.number_of r
-last-two (CommandRead.Is c) = refl
-last-two CommandRead.UnknownType = refl
-last-two CommandRead.Malformed = refl
+last_two : (r : CommandRead) → first 10 (eqb (command.number_of r) 10 ∷ eqb (command.number_of r) 11 ∷ []) ≡ command.number_of r
+last_two (CommandRead.Is c) = refl
+last_two CommandRead.UnknownType = refl
+last_two CommandRead.Malformed = refl
 
-pub as-its-command : (s : List ℕ) → None (take 9 (conditions s)) → first 1 (conditions s) ≡ command.number_of (commandOf (commandType s) (commandBytes s))
-as-its-command s n =
-    first-after 1 (map (λ (t : Bool × Refusal). t.0) (frameTests s)) (unknownCommand s ∷ malformedCommand s ∷ []) n ∙ last-two (commandOf (commandType s) (commandBytes s))
+pub as_its_command : (s : List ℕ) → None (take 9 (conditions s)) → first 1 (conditions s) ≡ command.number_of (command_of (command_type s) (command_bytes s))
+as_its_command s n =
+    first_after 1 (map (λ (t : Bool × Refusal). t.0) (frame_tests s)) (unknown_command s ∷ malformed_command s ∷ []) n ∙ last_two (command_of (command_type s) (command_bytes s))
 
 -- ---- what is written of the words of a command
 
 module _ (words components lent : List ℕ) (a : AllBytes lent) where
   abbrev own : SpliceCommand
-  own = commandGiven words
+  own = command_given words
 
   abbrev places : List InsertComponent
-  places = array (command-answers.listed words components lent)
+  places = array (command_answers.listed words components lent)
 
-  makes : CommandMakes own places lent (commandMade own places lent)
-  makes = writing.what-is-made-of-a-command own places lent (written.own-size words components lent) (written.few-given words) a
+  makes : CommandMakes own places lent (command_made own places lent)
+  makes = writing.what_is_made_of_a_command own places lent (written.own_size words components lent) (written.few_given words) a
 
   -- a refusal has a number
-  makes-some : {m : Made} → CommandMakes own places lent m → (n : ℕ) → m ≡ refused n → n ≡ 0 → ⊥
-  makes-some (CommandMakes.outside f) n e z = let q : 31 ≡ n = cc in omega arith
-  makes-some (CommandMakes.over f g) n e z = let q : 32 ≡ n = cc in omega arith
-  makes-some (CommandMakes.nobodys f g h) n e z = let q : 33 ≡ n = cc in omega arith
-  makes-some (CommandMakes.its f p h) n e z = zero_one cc
+  makes_some : {m : Made} → CommandMakes own places lent m → (n : ℕ) → m ≡ refused n → n ≡ 0 → ⊥
+  makes_some (CommandMakes.outside f) n e z = let q : 31 ≡ n = cc in omega arith
+  makes_some (CommandMakes.over f g) n e z = let q : 32 ≡ n = cc in omega arith
+  makes_some (CommandMakes.nobodys f g h) n e z = let q : 33 ≡ n = cc in omega arith
+  makes_some (CommandMakes.its f p h) n e z = zero_one cc
 
-  pub words-some : (n : ℕ) → commandWordsMade words components lent ≡ refused n → n ≡ 0 → ⊥
-  unfolding commandWordsMade componentsFrom
-  words-some = written.less-some _ _ (makes-some makes)
+  pub words_some : (n : ℕ) → command_words_made words components lent ≡ refused n → n ≡ 0 → ⊥
+  unfolding command_words_made components_from
+  words_some = written.less_some _ _ (makes_some makes)
 
-  pub payload-words : (p : List ℕ) → commandWordsMade words components lent ≡ made p → PayloadOf words components lent p
-  unfolding commandWordsMade componentsFrom
-  payload-words p e =
-      let u = written.unless-refused (commandRefusal own words components lent) (commandMade own places lent) p e in
+  pub payload_words : (p : List ℕ) → command_words_made words components lent ≡ made p → PayloadOf words components lent p
+  unfolding command_words_made components_from
+  payload_words p e =
+      let u = written.unless_refused_lem (command_refusal own words components lent) (command_made own places lent) p e in
       record {
-        own-command = own;
-        own-components = command-answers.listed words components lent;
-        command-is = written.own-words words components lent u.0;
-        payload = payload-of own places lent makes p u.1;
+        own_command = own;
+        own_components = command_answers.listed words components lent;
+        command_is_lem = written.own_words words components lent u.0;
+        payload = payload_of_lem own places lent makes p u.1;
       }
 
   -- it is the command of the section that is written of the same words
   module _ (header loop : List ℕ) (l : AllBytes loop) where
-    in-section : {m : Made} → SectionMakes (headerFrom header) own places lent loop m → (b : List ℕ) → m ≡ made b → CommandMakes own places lent (made (commandBytes b))
-    in-section (SectionMakes.outside f) b e = zero_one cc
-    in-section (SectionMakes.over f g) b e = zero_one cc
-    in-section (SectionMakes.nobodys f g h) b e = zero_one cc
-    in-section (SectionMakes.long f x p h k i) b e = zero_one cc
-    in-section (SectionMakes.other f x p h k i j) b e = zero_one cc
-    in-section (SectionMakes.its f x k) b e =
+    in_section_lem : {m : Made} → SectionMakes (header_from header) own places lent loop m → (b : List ℕ) → m ≡ made b → CommandMakes own places lent (made (command_bytes b))
+    in_section_lem (SectionMakes.outside f) b e = zero_one cc
+    in_section_lem (SectionMakes.over f g) b e = zero_one cc
+    in_section_lem (SectionMakes.nobodys f g h) b e = zero_one cc
+    in_section_lem (SectionMakes.long f x p h k i) b e = zero_one cc
+    in_section_lem (SectionMakes.other f x p h k i j) b e = zero_one cc
+    in_section_lem (SectionMakes.its f x k) b e =
         let q : x ≡ b = cc in
-        subst (λ (v : List ℕ). CommandMakes own places lent (made (commandBytes v))) q (CommandMakes.its f (commandBytes x) k.command)
+        subst (λ (v : List ℕ). CommandMakes own places lent (made (command_bytes v))) q (CommandMakes.its f (command_bytes x) k.command)
 
-    pub command-words : (b : List ℕ) → sectionWordsMade header words components lent loop ≡ made b → commandWordsMade words components lent ≡ made (commandBytes b)
-    unfolding commandWordsMade componentsFrom noLess
-    command-words b e =
+    pub command_words_lem : (b : List ℕ) → section_words_made header words components lent loop ≡ made b → command_words_made words components lent ≡ made (command_bytes b)
+    unfolding command_words_made components_from no_less
+    command_words_lem b e =
         let m = written.made_so header words components lent loop b e in
         rw m.taken
-        (writing.what-is-made-of-a-command-is-one own places lent (written.own-size words components lent) (written.few-given words) a _ _ makes
-        (in-section (written.makes header words components lent loop a l) b m.overall))
+        (writing.what_is_made_of_a_command_is_one own places lent (written.own_size words components lent) (written.few_given words) a _ _ makes
+        (in_section_lem (written.makes header words components lent loop a l) b m.overall))
 
 -- ---- and read again
 
-type-word : (c : SpliceCommand) → word (commandWords (flatCommand c)) 1 ≡ type_of c
-unfolding commandWords flatCommand noCommand
-type-word SpliceCommand.SpliceNull = refl
-type-word (SpliceCommand.SpliceInsert i) = refl
-type-word (SpliceCommand.TimeSignal t) = refl
-type-word SpliceCommand.BandwidthReservation = refl
-type-word (SpliceCommand.PrivateCommand p) = refl
+type_word : (c : SpliceCommand) → word (command_words (flat_command c)) 1 ≡ type_of c
+unfolding command_words flat_command no_command
+type_word SpliceCommand.SpliceNull = refl
+type_word (SpliceCommand.SpliceInsert i) = refl
+type_word (SpliceCommand.TimeSignal t) = refl
+type_word SpliceCommand.BandwidthReservation = refl
+type_word (SpliceCommand.PrivateCommand p) = refl
 
 -- words that are a command's own begin with its type
-own-type : (c : SpliceCommand) (words : List ℕ) → same (commandWords (flatCommand c)) words ≡ true → word words 1 ≡ type_of c
-unfolding commandWords
-own-type c words e = same_at (commandWords (flatCommand c)) words e 1 (lit< tt) ∙ type-word c
+own_type : (c : SpliceCommand) (words : List ℕ) → same (command_words (flat_command c)) words ≡ true → word words 1 ≡ type_of c
+unfolding command_words
+own_type c words e = same_at (command_words (flat_command c)) words e 1 (lit< tt) ∙ type_word c
 
-pub payload-again : (words components lent p : List ℕ) (w : PayloadOf words components lent p) → flatCommandRead (commandOf (word words 1) p) ≡ flatCommandRead (CommandRead.Is w.payload.again)
-payload-again words components lent p w =
-    ap (λ (k : ℕ). flatCommandRead (commandOf k p)) (own-type w.own-command words w.command-is.own) ∙ ap flatCommandRead w.payload.reading
+pub payload_again_lem : (words components lent p : List ℕ) (w : PayloadOf words components lent p) → flat_command_read (command_of (word words 1) p) ≡ flat_command_read (CommandRead.Is w.payload.again)
+payload_again_lem words components lent p w =
+    ap (λ (k : ℕ). flat_command_read (command_of k p)) (own_type w.own_command words w.command_is_lem.own) ∙ ap flat_command_read w.payload.reading
 
-pub words-again : (words components lent p : List ℕ) (w : PayloadOf words components lent p) → same (take 19 (commandWords (flatCommandRead (CommandRead.Is w.payload.again)))) words ≡ true
-unfolding flatCommandRead
-words-again words components lent p w =
-    let c : SpliceCommand = w.own-command in
+pub words_again : (words components lent p : List ℕ) (w : PayloadOf words components lent p) → same (take 19 (command_words (flat_command_read (CommandRead.Is w.payload.again)))) words ≡ true
+unfolding flat_command_read
+words_again words components lent p w =
+    let c : SpliceCommand = w.own_command in
     let d : SpliceCommand = w.payload.again in
     ap (λ (v : List ℕ). same v words)
-    (sym (written.views-words placeless d) ∙ ap (λ (y : SpliceCommand). take 19 (commandWords (flatCommand y))) w.payload.values ∙ written.views-words placeless c)
-    ∙ written.same-take 19 (commandWords (flatCommand c)) words w.command-is.own
+    (sym (written.views_words placeless d) ∙ ap (λ (y : SpliceCommand). take 19 (command_words (flat_command y))) w.payload.values ∙ written.views_words placeless c)
+    ∙ written.same_take 19 (command_words (flat_command c)) words w.command_is_lem.own

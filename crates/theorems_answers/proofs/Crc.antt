@@ -8,13 +8,13 @@ use lib.Dec.{eqb, ltb}
 use lib.ListN.{length, take, drop, get_or}
 use lib.Seq.{drop_at, length-take-le}
 use borrow.Author.Tests.{eq-eqb, ne_eqb, le-ltb}
-use Rattle.crc.proofs.Laws.{crc-last}
-use Rattle.crc.specs.Crc.{crcOf, crcBytesOf}
-use Rattle.section.proofs.Parts.{parts-of}
-use Rattle.section.specs.Section.{conditions, first, sectionOf}
+use Rattle.crc.proofs.Laws.{crc_last}
+use Rattle.crc.specs.Crc.{crc_of, crc_bytes_of}
+use Rattle.section.proofs.Parts.{parts_of_lem}
+use Rattle.section.specs.Section.{conditions, first, section_of}
 use Rattle.section.specs.declared.Section.{Section}
 use Rattle.section.specs.declared.SectionRead.{SectionRead}
-use Rattle.table.proofs.Bits.{byte-in}
+use Rattle.table.proofs.Bits.{byte_in}
 use Rattle.table.specs.Bits.{AllBytes}
 
 -- a refusal that comes later has a higher number
@@ -27,14 +27,14 @@ fourth : (a b c e : Bool) (bs : List Bool) → a ≡ false → b ≡ false → c
 fourth a b c true bs x y z = rw (x, y, z)
 fourth a b c false bs x y z = rw (x, y, z) (late 4 bs (omega arith))
 
-pub by-crc : (s : List ℕ) → 3 ≤ length s → length s ≤ 4096 → get_or s 0 0 ≡ 0xfc → eqb (first 1 (conditions s)) 4 ≡ not (eqb (crcOf s) 0)
-by-crc s three most table =
-    fourth (ltb (length s) 3) (ltb 4096 (length s)) (not (eqb (get_or s 0 0) 0xfc)) (not (eqb (crcOf s) 0)) (drop 4 (conditions s))
+pub by_crc : (s : List ℕ) → 3 ≤ length s → length s ≤ 4096 → get_or s 0 0 ≡ 0xfc → eqb (first 1 (conditions s)) 4 ≡ not (eqb (crc_of s) 0)
+by_crc s three most table =
+    fourth (ltb (length s) 3) (ltb 4096 (length s)) (not (eqb (get_or s 0 0) 0xfc)) (not (eqb (crc_of s) 0)) (drop 4 (conditions s))
     (le-ltb (length s) 3 three) (le-ltb 4096 (length s) most) (ap not (eq-eqb (get_or s 0 0) 0xfc table))
 
-pub last-four : (s : List ℕ) (x : Section) → AllBytes s → sectionOf s ≡ SectionRead.Is x → drop (length s - 4) s ≡ crcBytesOf (take (length s - 4) s)
-last-four s x a e =
-    let p = parts-of s x e in
+pub last_four : (s : List ℕ) (x : Section) → AllBytes s → section_of s ≡ SectionRead.Is x → drop (length s - 4) s ≡ crc_bytes_of (take (length s - 4) s)
+last_four s x a e =
+    let p = parts_of_lem s x e in
     let k : ℕ = length s - 4 in
-    let q : s ≡ take k s ++ crcBytesOf (take k s) = crc-last s k (omega (arith, p.long)) (byte-in s a) p.crc in
-    ap (drop k) q ∙ drop_at (take k s) (crcBytesOf (take k s)) k (length-take-le k s (omega arith))
+    let q : s ≡ take k s ++ crc_bytes_of (take k s) = crc_last s k (omega (arith, p.long)) (byte_in s a) p.crc in
+    ap (drop k) q ∙ drop_at (take k s) (crc_bytes_of (take k s)) k (length-take-le k s (omega arith))

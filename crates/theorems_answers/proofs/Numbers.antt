@@ -7,41 +7,41 @@ use mathlib.Core.Option.{some}
 use mathlib.Core.Path.{◌≡◌, refl, ap, ap₂, sym, ◌∙◌}
 use lib.Dec.{eqb}
 use borrow.Author.Tests.{eqb-true}
-use Rattle.names.specs.Flags.{Answer, gives, or-12}
-use Rattle.names.specs.Numbering.{Numbering, number_in, classIn, named, name_of, or, value_of}
+use Rattle.names.specs.Flags.{Answer, gives, or_12}
+use Rattle.names.specs.Numbering.{Numbering, number_in, class_in, named, name_of, or, value_of}
 use Rattle.names.proofs.FlagLaws.{Flags}
-use Rattle.names.proofs.Laws.{allNamed, Inverse}
-use Rattle.scte35.specs.FlatNumber.{flatName, flatAnswer}
+use Rattle.names.proofs.Laws.{all_named, Inverse}
+use Rattle.scte35.specs.FlatNumber.{flat_name, flat_answer}
 use Rattle.scte35.specs.declared.numbers.FlatNumber.{FlatNumber}
 use Rattle.table.specs.Bits.{pick}
-use Rattle.table.proofs.Lists.{and-true}
-use Rattle.theorems_answers.specs.Numbers.{among, classed, orTwelve, Numbered, Flagged}
+use Rattle.table.proofs.Lists.{and_true}
+use Rattle.theorems_answers.specs.Numbers.{among, classed, or_twelve, Numbered, Flagged}
 
 module _ {A : Type 0} (T : Numbering A) (n : ℕ) where
   -- class 0 where a name has the number, and else that of the value which carries it
-  by_name : (xs : List A) → allNamed (classIn T) xs ≡ true
-      → classIn T (or (name_of (number_in T) xs n) (T.others n)) ≡ pick (among n (map (number_in T) xs)) 0 (classIn T (T.others n))
+  by_name : (xs : List A) → all_named (class_in T) xs ≡ true
+      → class_in T (or (name_of (number_in T) xs n) (T.others n)) ≡ pick (among n (map (number_in T) xs)) 0 (class_in T (T.others n))
   by_name [] e = refl
   by_name (x ∷ xs) e =
-      let a = and-true (eqb (classIn T x) named) (allNamed (classIn T) xs) e in
-      go (eqb n (number_in T x)) (eqb-true (classIn T x) named a.0) (by_name xs a.1)
+      let a = and_true (eqb (class_in T x) named) (all_named (class_in T) xs) e in
+      go (eqb n (number_in T x)) (eqb-true (class_in T x) named a.0) (by_name xs a.1)
     where
-      go : (b : Bool) → classIn T x ≡ 0 → classIn T (or (name_of (number_in T) xs n) (T.others n)) ≡ pick (among n (map (number_in T) xs)) 0 (classIn T (T.others n))
-          → classIn T (or (pick b (some x) (name_of (number_in T) xs n)) (T.others n)) ≡ pick (pick b true (among n (map (number_in T) xs))) 0 (classIn T (T.others n))
+      go : (b : Bool) → class_in T x ≡ 0 → class_in T (or (name_of (number_in T) xs n) (T.others n)) ≡ pick (among n (map (number_in T) xs)) 0 (class_in T (T.others n))
+          → class_in T (or (pick b (some x) (name_of (number_in T) xs n)) (T.others n)) ≡ pick (pick b true (among n (map (number_in T) xs))) 0 (class_in T (T.others n))
       go true c r = c
       go false c r = r
 
-  pub name-classed : (names : List ℕ) (other : ℕ) → allNamed (classIn T) T.names ≡ true → map (number_in T) T.names ≡ names → classIn T (T.others n) ≡ other
-      → number_in T (value_of T n) ≡ n → flatName T.entry (value_of T n) ≡ classed names other n
-  name-classed names other listed e o there =
+  pub name_classed : (names : List ℕ) (other : ℕ) → all_named (class_in T) T.names ≡ true → map (number_in T) T.names ≡ names → class_in T (T.others n) ≡ other
+      → number_in T (value_of T n) ≡ n → flat_name T.entry (value_of T n) ≡ classed names other n
+  name_classed names other listed e o there =
       ap₂ (λ (c k : ℕ). record { refusal = 0; class = c; number = k }) (by_name T.names listed ∙ ap₂ (λ (ks : List ℕ) (c : ℕ). pick (among n ks) 0 c) e o) there
 
-pub flag-answered : {A : Type 0} (number : A → ℕ) (xs : List A) (n : ℕ) → flatAnswer number (or-12 (name_of number xs n)) ≡ orTwelve (map number xs) n
-flag-answered number [] n = refl
-flag-answered number (x ∷ xs) n = go (eqb n (number x)) refl (flag-answered number xs n)
+pub flag_answered : {A : Type 0} (number : A → ℕ) (xs : List A) (n : ℕ) → flat_answer number (or_12 (name_of number xs n)) ≡ or_twelve (map number xs) n
+flag_answered number [] n = refl
+flag_answered number (x ∷ xs) n = go (eqb n (number x)) refl (flag_answered number xs n)
   where
-    go : (b : Bool) → eqb n (number x) ≡ b → flatAnswer number (or-12 (name_of number xs n)) ≡ orTwelve (map number xs) n
-        → flatAnswer number (or-12 (pick b (some x) (name_of number xs n)))
+    go : (b : Bool) → eqb n (number x) ≡ b → flat_answer number (or_12 (name_of number xs n)) ≡ or_twelve (map number xs) n
+        → flat_answer number (or_12 (pick b (some x) (name_of number xs n)))
         ≡ pick (pick b true (among n (map number xs))) (record { refusal = 0; class = 0; number = n }) (record { refusal = 12; class = 0; number = 0 })
     go true e r = ap (λ (k : ℕ). record { refusal = 0; class = 0; number = k }) (sym (eqb-true n (number x) e))
     go false e r = r

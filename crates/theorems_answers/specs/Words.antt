@@ -11,8 +11,8 @@ use Rattle.theorems_writer.specs.Making.{CommandPayload}
 
 -- ---- struct scte35_header, by the first bit of each field and its width. 01, "Section": "protocol_version 8, encrypted 1, algorithm 6, pts_adjustment 33,
 -- cw_index 8, tier 12, command length 12, command type 8"
-abbrev pub headerBy : ℕ → (ℕ → ℕ → ℕ) → FlatHeader
-headerBy refusal number =
+abbrev pub header_by : ℕ → (ℕ → ℕ → ℕ) → FlatHeader
+header_by refusal number =
     record {
       refusal = refusal;
       protocol_version = number 0 8;
@@ -27,11 +27,11 @@ headerBy refusal number =
 
 -- of eleven bytes, whatever follows them. 01: "5 | .. a header alone under 11, its only refusal"; 0 stands where there is nothing
 abbrev pub header_at : List ℕ → FlatHeader
-header_at b = pick (ltb (length b) 11) (headerBy 5 (λ at width. 0)) (headerBy 0 (field (bits_of b)))
+header_at b = pick (ltb (length b) 11) (header_by 5 (λ at width. 0)) (header_by 0 (field (bits_of b)))
 
 -- ---- a command whose private bytes are counted from `base` bytes before its payload; no other command has any
-abbrev pub movedBy : ℕ → FlatCommand → FlatCommand
-movedBy base c =
+abbrev pub moved_by : ℕ → FlatCommand → FlatCommand
+moved_by base c =
     record {
       refusal = c.refusal;
       splice_command_type = c.splice_command_type;
@@ -47,7 +47,7 @@ movedBy base c =
 -- ---- what was written of the words of a command and of its components: they are those of a command (`CommandIs`), and p is a canonical payload that
 -- reads as it
 pub record PayloadOf (words components lent p : List ℕ) : Type 0 where
-  pub own-command : SpliceCommand
-  pub own-components : List InsertComponent
-  pub command-is : CommandIs words components own-command own-components
-  pub payload : CommandPayload own-command (array own-components) lent p
+  pub own_command : SpliceCommand
+  pub own_components : List InsertComponent
+  pub command_is_lem : CommandIs words components own_command own_components
+  pub payload : CommandPayload own_command (array own_components) lent p

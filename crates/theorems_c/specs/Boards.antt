@@ -12,7 +12,7 @@ module _ {K : Type 0} {A R E : K → Type 0} (learnt : (κ : K) → A κ → R �
     pub after : E κ
     pub taken : given κ arguments ≡ v
     pub left : seen κ answer after ≡ w
-    pub learnt-so : learnt κ arguments answer after
+    pub learnt_so : learnt κ arguments answer after
 
 -- calls from lent words on, and what each answers; `Does o words answer later` is what a call may do
 pub data LentRun (Does : On → List ℕ → FlatBoardAnswer → List ℕ → Type 0) : List ℕ → List On → List FlatBoardAnswer → Type 0 where

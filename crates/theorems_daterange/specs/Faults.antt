@@ -1,7 +1,7 @@
 -- What a reader of lines answers, in words of its own: by the list of a line's attributes (`Line`, RFC 8216's grammar; a line has at most one).
 use Rattle.std.specs.Prelude.{ℕ, ◌≤◌, ◌<◌, false, List, ◌∷◌, ◌++◌, ◌≡◌, length, drop}
 use Rattle.attribute_list.specs.Grammar.{Value, quoted, plain, Attribute, Line}
-use Rattle.daterange_line.specs.Reading.{idName, dateName, cueName, hexadecimal, isId, isDate, viewOf, cueOf, sectionOf}
+use Rattle.daterange_line.specs.Reading.{id_name, date_name, cue_name, hexadecimal, is_id, is_date, view_of, cue_of, section_of}
 use Rattle.daterange_line.specs.declared.Cue.{Cue}
 use Rattle.daterange_line.specs.declared.Read.{Read}
 use Rattle.upid.specs.Cover.{All}
@@ -13,9 +13,9 @@ NoSequence (plain b) = hexadecimal b ≡ false
 
 -- "an ID, date or cue of another value kind": ID and date are quoted
 pub data Misfit (a : Attribute) : Type 0 where
-  id : (b : List ℕ) → a.name ≡ idName → a.value ≡ plain b → Misfit a
-  date : (b : List ℕ) → a.name ≡ dateName → a.value ≡ plain b → Misfit a
-  cue : (c : Cue) → a.name ≡ cueName c → NoSequence a.value → Misfit a
+  id : (b : List ℕ) → a.name ≡ id_name → a.value ≡ plain b → Misfit a
+  date : (b : List ℕ) → a.name ≡ date_name → a.value ≡ plain b → Misfit a
+  cue : (c : Cue) → a.name ≡ cue_name c → NoSequence a.value → Misfit a
 
 -- 52 of a list: "a repeated name", or such an attribute, wherever they stand
 pub data Faulty (l : List Attribute) : Type 0 where
@@ -24,15 +24,15 @@ pub data Faulty (l : List Attribute) : Type 0 where
 
 -- "51 ID, date or all three names missing"
 pub data Lacking (l : List Attribute) : Type 0 where
-  no-id : All (λ (a : Attribute). a.name ≡ idName → ⊥) l → Lacking l
-  no-date : All (λ (a : Attribute). a.name ≡ dateName → ⊥) l → Lacking l
-  no-cue : All (λ (a : Attribute). (c : Cue) → a.name ≡ cueName c → ⊥) l → Lacking l
+  no_id : All (λ (a : Attribute). a.name ≡ id_name → ⊥) l → Lacking l
+  no_date : All (λ (a : Attribute). a.name ≡ date_name → ⊥) l → Lacking l
+  no_cue : All (λ (a : Attribute). (c : Cue) → a.name ≡ cue_name c → ⊥) l → Lacking l
 
 -- the answer to a line, and the target's later bytes: "Reading, in order, 52 another tag, bad attribute list ..; 51 ..; 36"
 pub data LineRead (line target : List ℕ) : Read → List ℕ → Type 0 where
   unlisted : ((l : List Attribute) → Line l line → ⊥) → LineRead line target (Read.Refused 52) target
   faulty : (l : List Attribute) → Line l line → Faulty l → LineRead line target (Read.Refused 52) target
   lacking : (l : List Attribute) → Line l line → (Faulty l → ⊥) → Lacking l → LineRead line target (Read.Refused 51) target
-  short : (l : List Attribute) → Line l line → (Faulty l → ⊥) → (Lacking l → ⊥) → length target < length (sectionOf l) → LineRead line target (Read.Refused 36) target
-  its : (l : List Attribute) → Line l line → (Faulty l → ⊥) → (Lacking l → ⊥) → length (sectionOf l) ≤ length target
-      → LineRead line target (Read.Is (record { id = viewOf isId 17 l; date = viewOf isDate 17 l; cue = cueOf l; len = length (sectionOf l) })) (sectionOf l ++ drop (length (sectionOf l)) target)
+  short : (l : List Attribute) → Line l line → (Faulty l → ⊥) → (Lacking l → ⊥) → length target < length (section_of l) → LineRead line target (Read.Refused 36) target
+  its : (l : List Attribute) → Line l line → (Faulty l → ⊥) → (Lacking l → ⊥) → length (section_of l) ≤ length target
+      → LineRead line target (Read.Is (record { id = view_of is_id 17 l; date = view_of is_date 17 l; cue = cue_of l; len = length (section_of l) })) (section_of l ++ drop (length (section_of l)) target)

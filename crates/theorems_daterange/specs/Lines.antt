@@ -1,8 +1,8 @@
 -- What is claimed of a line that is written for a section and read again, and what a writer of lines answers, in words of its own.
 use Rattle.std.specs.Prelude.{ℕ, ◌+◌, ◌*◌, ◌&&◌, List, ◌++◌, ◌≡◌, ltb, length, drop}
-use Rattle.attribute_list.specs.Grammar.{all, quotedByte}
+use Rattle.attribute_list.specs.Grammar.{all, quoted_byte}
 use Rattle.bit_stores.specs.declared.Written.{Written}
-use Rattle.c_daterange.specs.FlatDaterange.{nameNumber}
+use Rattle.c_daterange.specs.FlatDaterange.{name_number}
 use Rattle.c_daterange.specs.declared.FlatDaterange.{FlatDaterange}
 use Rattle.daterange_line.specs.declared.Cue.{Cue}
 use Rattle.daterange_line.specs.declared.Cue.TheVariants.{Cmd, Out, In}
@@ -20,37 +20,37 @@ pub record Cued : Type 0 where
 -- ---- the answer
 
 -- how long a line is: #EXT-X-DATERANGE:ID="",START-DATE="",SCTE35-CMD=0x has 50 bytes, with SCTE35-IN one less; ID and date are added, and two digits for each byte
-abbrev pub fixedSize : Cue → ℕ
-fixedSize Cmd = 50
-fixedSize Out = 50
-fixedSize In = 49
+abbrev pub fixed_size : Cue → ℕ
+fixed_size Cmd = 50
+fixed_size Out = 50
+fixed_size In = 49
 
-abbrev pub lineSize : Cue → Cued → ℕ
-lineSize cue q = fixedSize cue + length q.id + length q.date + length q.section * 2
+abbrev pub line_size : Cue → Cued → ℕ
+line_size cue q = fixed_size cue + length q.id + length q.date + length q.section * 2
 
 -- "53 an ID or date holding a double quote, CR or LF; 36"; the target has `room` bytes
-unfoldable pub lineAnswered : Cue → Cued → ℕ → Written
-lineAnswered cue q room =
-    pick (all quotedByte q.id && all quotedByte q.date)
-    (pick (ltb room (lineSize cue q)) (Written.Refused 36) (Written.Wrote (lineSize cue q)))
+unfoldable pub line_answered : Cue → Cued → ℕ → Written
+line_answered cue q room =
+    pick (all quoted_byte q.id && all quoted_byte q.date)
+    (pick (ltb room (line_size cue q)) (Written.Refused 36) (Written.Wrote (line_size cue q)))
     (Written.Refused 53)
 
 -- ---- the line, read again
 
 -- a reader that is handed the line, and a target that the section fits, says the same ID and date, the name and the section's size, and the target begins with the section
 pub record ReadsBack (cue : Cue) (q : Cued) (line target : List ℕ) (answer : Read) (later : List ℕ) : Type 0 where
-  pub id-view : View
-  pub date-view : View
-  pub says : answer ≡ Read.Is (record { id = id-view; date = date-view; cue = cue; len = length q.section })
-  pub same_id : viewed line id-view ≡ q.id
-  pub same-date : viewed line date-view ≡ q.date
+  pub id_view : View
+  pub date_view : View
+  pub says : answer ≡ Read.Is (record { id = id_view; date = date_view; cue = cue; len = length q.section })
+  pub same_id : viewed line id_view ≡ q.id
+  pub same_date : viewed line date_view ≡ q.date
   pub bytes : later ≡ q.section ++ drop (length q.section) target
 
 -- the same over C, field by field
 pub record ReadsBackC (cue : Cue) (q : Cued) (line target : List ℕ) (answer : FlatDaterange) (later : List ℕ) : Type 0 where
   pub refusal : answer.refusal ≡ 0
   pub same_id : viewed line (record { at = answer.id.at; len = answer.id.len }) ≡ q.id
-  pub same-date : viewed line (record { at = answer.date.at; len = answer.date.len }) ≡ q.date
-  pub name : answer.name ≡ nameNumber cue
+  pub same_date : viewed line (record { at = answer.date.at; len = answer.date.len }) ≡ q.date
+  pub name : answer.name ≡ name_number cue
   pub size : answer.«length» ≡ length q.section
   pub bytes : later ≡ q.section ++ drop (length q.section) target

@@ -3,102 +3,102 @@
 use mathlib.Core.Path.{ap}
 use Prim.Native.Nat.{◌%◌, ◌*◌, ◌+◌}
 use lib.ListN.{drop}
-use Rattle.c_packet.specs.PacketWords.{fedNumber, keptFed, keptIn, keptTaken, stateIn, takenNumber}
-use Rattle.transport.specs.Assembler.{FedTo, TakenTo, fedOf, freshAssembler, taken_of}
+use Rattle.c_packet.specs.PacketWords.{fed_number, kept_fed, kept_in, kept_taken, state_in, taken_number}
+use Rattle.transport.specs.Assembler.{FedTo, TakenTo, fed_of, fresh_assembler, taken_of}
 use Rattle.transport_packet.specs.Packet.{head_of}
-use Rattle.transport_packet.specs.Sections.{cut, nextBy, next_of}
+use Rattle.transport_packet.specs.Sections.{cut, next_by, next_of}
 use Rattle.transport_packet.proofs.packet.read_head.Reads as read_head
-use Rattle.transport_packet.proofs.sections.next_by.Reads as next-by
-use Rattle.transport_packet.proofs.sections.length_of.Reads as length-of
-use Rattle.transport_packet.proofs.sections.next_at.Reads as next-at
-use Rattle.transport_packet.proofs.sections.any_long.Reads as any-long
+use Rattle.transport_packet.proofs.sections.next_by.Reads as next_by_lem
+use Rattle.transport_packet.proofs.sections.length_of.Reads as length_of_lem
+use Rattle.transport_packet.proofs.sections.next_at.Reads as next_at_lem
+use Rattle.transport_packet.proofs.sections.any_long.Reads as any_long
 use Rattle.transport.proofs.fresh.Reads as fresh
 use Rattle.transport.proofs.feed.Reads as feed
-use Rattle.transport.proofs.take.Reads as take-section
-use Rattle.c_packet.proofs.start_words.Reads as start-words
-use Rattle.c_packet.proofs.feed_words.Reads as feed-words
+use Rattle.transport.proofs.take.Reads as take_section
+use Rattle.c_packet.proofs.start_words.Reads as start_words
+use Rattle.c_packet.proofs.feed_words.Reads as feed_words
 use Rattle.c_packet.proofs.take_words.Reads as take_words
-use Rattle.scte35.proofs.packet.scte35_packet_start.Reads as scte35-packet-start
-use Rattle.scte35.proofs.packet.scte35_packet_feed.Reads as scte35-packet-feed
-use Rattle.scte35.proofs.packet.scte35_packet_take.Reads as scte35-packet-take
+use Rattle.scte35.proofs.packet.scte35_packet_start.Reads as scte35_packet_start
+use Rattle.scte35.proofs.packet.scte35_packet_feed.Reads as scte35_packet_feed
+use Rattle.scte35.proofs.packet.scte35_packet_take.Reads as scte35_packet_take
 use Rattle.theorems_fixed.specs.FixedAnswers.{Answers}
 
 -- ---- transport_packet: one packet
 
-pub read-head-answers : Answers read_head.Asked read_head.Learnt (λ κ r e. r) (λ κ a. head_of a.0 a.1.0.now)
-read-head-answers = record { takes-any = λ κ a. tt; is = λ κ a r e l. l }
+pub read_head_answers : Answers read_head.Asked read_head.Learnt (λ κ r e. r) (λ κ a. head_of a.0 a.1.0.now)
+read_head_answers = record { takes_any = λ κ a. tt; is = λ κ a r e l. l }
 
-pub next-by-answers : Answers next-by.Asked next-by.Learnt (λ κ r e. r) (λ κ a. nextBy a.0 a.1.0 a.1.1.0)
-next-by-answers = record { takes-any = λ κ a. tt; is = λ κ a r e l. l }
+pub next_by_answers : Answers next_by_lem.Asked next_by_lem.Learnt (λ κ r e. r) (λ κ a. next_by a.0 a.1.0 a.1.1.0)
+next_by_answers = record { takes_any = λ κ a. tt; is = λ κ a r e l. l }
 
-pub length-of-answers : Answers length-of.Asked length-of.Learnt (λ κ r e. r) (λ κ a. a.0 % 16 * 256 + a.1.0)
-length-of-answers = record { takes-any = λ κ a. tt; is = λ κ a r e l. l.0 }
+pub length_of_answers : Answers length_of_lem.Asked length_of_lem.Learnt (λ κ r e. r) (λ κ a. a.0 % 16 * 256 + a.1.0)
+length_of_answers = record { takes_any = λ κ a. tt; is = λ κ a r e l. l.0 }
 
-pub next-at-answers : Answers next-at.Asked next-at.Learnt (λ κ r e. r) (λ κ a. next_of (drop a.1.0 a.0.now))
-next-at-answers = record { takes-any = λ κ a. tt; is = λ κ a r e l. l }
+pub next_at_answers : Answers next_at_lem.Asked next_at_lem.Learnt (λ κ r e. r) (λ κ a. next_of (drop a.1.0 a.0.now))
+next_at_answers = record { takes_any = λ κ a. tt; is = λ κ a r e l. l }
 
-pub any-long-answers : Answers any-long.Asked any-long.Learnt (λ κ r e. r) (λ κ a. (cut (drop a.1.0 a.0.now)).long)
-any-long-answers = record { takes-any = λ κ a. tt; is = λ κ a r e l. l }
+pub any_long_answers : Answers any_long.Asked any_long.Learnt (λ κ r e. r) (λ κ a. (cut (drop a.1.0 a.0.now)).long)
+any_long_answers = record { takes_any = λ κ a. tt; is = λ κ a r e l. l }
 
 -- ---- transport: the assembler. Answer and buffer are one equation.
 
-pub fresh-answers : Answers fresh.Asked fresh.Learnt (λ κ r e. r) (λ κ a. freshAssembler a.0)
-fresh-answers = record { takes-any = λ κ a. tt; is = λ κ a r e l. l }
+pub fresh_answers : Answers fresh.Asked fresh.Learnt (λ κ r e. r) (λ κ a. fresh_assembler a.0)
+fresh_answers = record { takes_any = λ κ a. tt; is = λ κ a r e l. l }
 
-pub feed-answers : Answers feed.Asked feed.Learnt (λ κ r e. r) (λ κ a. (fedOf a.0 a.1.0.now a.1.1.0.now).answer)
-feed-answers = record { takes-any = λ κ a. tt; is = λ κ a r e l. ap (λ (z : FedTo). z.answer) (l) }
+pub feed_answers : Answers feed.Asked feed.Learnt (λ κ r e. r) (λ κ a. (fed_of a.0 a.1.0.now a.1.1.0.now).answer)
+feed_answers = record { takes_any = λ κ a. tt; is = λ κ a r e l. ap (λ (z : FedTo). z.answer) (l) }
 
-pub feed-leaves : Answers feed.Asked feed.Learnt (λ κ r e. e.1.1.0.now) (λ κ a. (fedOf a.0 a.1.0.now a.1.1.0.now).buffer)
-feed-leaves = record { takes-any = λ κ a. tt; is = λ κ a r e l. ap (λ (z : FedTo). z.buffer) (l) }
+pub feed_leaves : Answers feed.Asked feed.Learnt (λ κ r e. e.1.1.0.now) (λ κ a. (fed_of a.0 a.1.0.now a.1.1.0.now).buffer)
+feed_leaves = record { takes_any = λ κ a. tt; is = λ κ a r e l. ap (λ (z : FedTo). z.buffer) (l) }
 
-pub take-section-answers : Answers take-section.Asked take-section.Learnt (λ κ r e. r) (λ κ a. (taken_of a.0 a.1.0.now a.1.1.0.now).answer)
-take-section-answers = record { takes-any = λ κ a. tt; is = λ κ a r e l. ap (λ (z : TakenTo). z.answer) (l) }
+pub take_section_answers : Answers take_section.Asked take_section.Learnt (λ κ r e. r) (λ κ a. (taken_of a.0 a.1.0.now a.1.1.0.now).answer)
+take_section_answers = record { takes_any = λ κ a. tt; is = λ κ a r e l. ap (λ (z : TakenTo). z.answer) (l) }
 
-pub take-section-leaves : Answers take-section.Asked take-section.Learnt (λ κ r e. e.1.1.0.now) (λ κ a. (taken_of a.0 a.1.0.now a.1.1.0.now).buffer)
-take-section-leaves = record { takes-any = λ κ a. tt; is = λ κ a r e l. ap (λ (z : TakenTo). z.buffer) (l) }
+pub take_section_leaves : Answers take_section.Asked take_section.Learnt (λ κ r e. e.1.1.0.now) (λ κ a. (taken_of a.0 a.1.0.now a.1.1.0.now).buffer)
+take_section_leaves = record { takes_any = λ κ a. tt; is = λ κ a r e l. ap (λ (z : TakenTo). z.buffer) (l) }
 
 -- ---- c_packet: the assembler over words. Its state is the first of what may change, the buffer the last.
 
-pub start-words-leaves : Answers start-words.Asked start-words.Learnt (λ κ r e. e.1.0.now) (λ κ a. keptIn a.1.0.now (freshAssembler a.0))
-start-words-leaves = record { takes-any = λ κ a. tt; is = λ κ a r e l. l }
+pub start_words_leaves : Answers start_words.Asked start_words.Learnt (λ κ r e. e.1.0.now) (λ κ a. kept_in a.1.0.now (fresh_assembler a.0))
+start_words_leaves = record { takes_any = λ κ a. tt; is = λ κ a r e l. l }
 
-pub feed-words-answers : Answers feed-words.Asked feed-words.Learnt (λ κ r e. r) (λ κ a. fedNumber (fedOf (stateIn a.0.now) a.1.0.now a.1.1.0.now).answer)
-feed-words-answers = record { takes-any = λ κ a. tt; is = λ κ a r e l. l.0 }
+pub feed_words_answers : Answers feed_words.Asked feed_words.Learnt (λ κ r e. r) (λ κ a. fed_number (fed_of (state_in a.0.now) a.1.0.now a.1.1.0.now).answer)
+feed_words_answers = record { takes_any = λ κ a. tt; is = λ κ a r e l. l.0 }
 
-pub feed-words-leaves-the-state : Answers feed-words.Asked feed-words.Learnt (λ κ r e. e.0.now) (λ κ a. keptFed a.0.now (fedOf (stateIn a.0.now) a.1.0.now a.1.1.0.now).answer)
-feed-words-leaves-the-state = record { takes-any = λ κ a. tt; is = λ κ a r e l. l.1.0 }
+pub feed_words_leaves_the_state : Answers feed_words.Asked feed_words.Learnt (λ κ r e. e.0.now) (λ κ a. kept_fed a.0.now (fed_of (state_in a.0.now) a.1.0.now a.1.1.0.now).answer)
+feed_words_leaves_the_state = record { takes_any = λ κ a. tt; is = λ κ a r e l. l.1.0 }
 
-pub feed-words-leaves : Answers feed-words.Asked feed-words.Learnt (λ κ r e. e.1.1.0.now) (λ κ a. (fedOf (stateIn a.0.now) a.1.0.now a.1.1.0.now).buffer)
-feed-words-leaves = record { takes-any = λ κ a. tt; is = λ κ a r e l. l.1.1 }
+pub feed_words_leaves : Answers feed_words.Asked feed_words.Learnt (λ κ r e. e.1.1.0.now) (λ κ a. (fed_of (state_in a.0.now) a.1.0.now a.1.1.0.now).buffer)
+feed_words_leaves = record { takes_any = λ κ a. tt; is = λ κ a r e l. l.1.1 }
 
-pub take-words-answers : Answers take_words.Asked take_words.Learnt (λ κ r e. r) (λ κ a. takenNumber (taken_of (stateIn a.0.now) a.1.0.now a.1.1.0.now).answer)
-take-words-answers = record { takes-any = λ κ a. tt; is = λ κ a r e l. l.0 }
+pub take_words_answers : Answers take_words.Asked take_words.Learnt (λ κ r e. r) (λ κ a. taken_number (taken_of (state_in a.0.now) a.1.0.now a.1.1.0.now).answer)
+take_words_answers = record { takes_any = λ κ a. tt; is = λ κ a r e l. l.0 }
 
-pub take-words-leaves-the-state : Answers take_words.Asked take_words.Learnt (λ κ r e. e.0.now) (λ κ a. keptTaken a.0.now (taken_of (stateIn a.0.now) a.1.0.now a.1.1.0.now).answer)
-take-words-leaves-the-state = record { takes-any = λ κ a. tt; is = λ κ a r e l. l.1.0 }
+pub take_words_leaves_the_state : Answers take_words.Asked take_words.Learnt (λ κ r e. e.0.now) (λ κ a. kept_taken a.0.now (taken_of (state_in a.0.now) a.1.0.now a.1.1.0.now).answer)
+take_words_leaves_the_state = record { takes_any = λ κ a. tt; is = λ κ a r e l. l.1.0 }
 
-pub take-words-leaves : Answers take_words.Asked take_words.Learnt (λ κ r e. e.1.1.0.now) (λ κ a. (taken_of (stateIn a.0.now) a.1.0.now a.1.1.0.now).buffer)
-take-words-leaves = record { takes-any = λ κ a. tt; is = λ κ a r e l. l.1.1 }
+pub take_words_leaves : Answers take_words.Asked take_words.Learnt (λ κ r e. e.1.1.0.now) (λ κ a. (taken_of (state_in a.0.now) a.1.0.now a.1.1.0.now).buffer)
+take_words_leaves = record { takes_any = λ κ a. tt; is = λ κ a r e l. l.1.1 }
 
 -- ---- scte35: over C
 
-pub scte35-packet-start-leaves : Answers scte35-packet-start.Asked scte35-packet-start.Learnt (λ κ r e. e.1.0.now) (λ κ a. keptIn a.1.0.now (freshAssembler a.0))
-scte35-packet-start-leaves = record { takes-any = λ κ a. tt; is = λ κ a r e l. l }
+pub scte35_packet_start_leaves : Answers scte35_packet_start.Asked scte35_packet_start.Learnt (λ κ r e. e.1.0.now) (λ κ a. kept_in a.1.0.now (fresh_assembler a.0))
+scte35_packet_start_leaves = record { takes_any = λ κ a. tt; is = λ κ a r e l. l }
 
-pub scte35-packet-feed-answers : Answers scte35-packet-feed.Asked scte35-packet-feed.Learnt (λ κ r e. r) (λ κ a. fedNumber (fedOf (stateIn a.0.now) a.1.0.now a.1.1.0.now).answer)
-scte35-packet-feed-answers = record { takes-any = λ κ a. tt; is = λ κ a r e l. l.0 }
+pub scte35_packet_feed_answers : Answers scte35_packet_feed.Asked scte35_packet_feed.Learnt (λ κ r e. r) (λ κ a. fed_number (fed_of (state_in a.0.now) a.1.0.now a.1.1.0.now).answer)
+scte35_packet_feed_answers = record { takes_any = λ κ a. tt; is = λ κ a r e l. l.0 }
 
-pub scte35-packet-feed-leaves-the-state : Answers scte35-packet-feed.Asked scte35-packet-feed.Learnt (λ κ r e. e.0.now) (λ κ a. keptFed a.0.now (fedOf (stateIn a.0.now) a.1.0.now a.1.1.0.now).answer)
-scte35-packet-feed-leaves-the-state = record { takes-any = λ κ a. tt; is = λ κ a r e l. l.1.0 }
+pub scte35_packet_feed_leaves_the_state : Answers scte35_packet_feed.Asked scte35_packet_feed.Learnt (λ κ r e. e.0.now) (λ κ a. kept_fed a.0.now (fed_of (state_in a.0.now) a.1.0.now a.1.1.0.now).answer)
+scte35_packet_feed_leaves_the_state = record { takes_any = λ κ a. tt; is = λ κ a r e l. l.1.0 }
 
-pub scte35-packet-feed-leaves : Answers scte35-packet-feed.Asked scte35-packet-feed.Learnt (λ κ r e. e.1.1.0.now) (λ κ a. (fedOf (stateIn a.0.now) a.1.0.now a.1.1.0.now).buffer)
-scte35-packet-feed-leaves = record { takes-any = λ κ a. tt; is = λ κ a r e l. l.1.1 }
+pub scte35_packet_feed_leaves : Answers scte35_packet_feed.Asked scte35_packet_feed.Learnt (λ κ r e. e.1.1.0.now) (λ κ a. (fed_of (state_in a.0.now) a.1.0.now a.1.1.0.now).buffer)
+scte35_packet_feed_leaves = record { takes_any = λ κ a. tt; is = λ κ a r e l. l.1.1 }
 
-pub scte35-packet-take-answers : Answers scte35-packet-take.Asked scte35-packet-take.Learnt (λ κ r e. r) (λ κ a. takenNumber (taken_of (stateIn a.0.now) a.1.0.now a.1.1.0.now).answer)
-scte35-packet-take-answers = record { takes-any = λ κ a. tt; is = λ κ a r e l. l.0 }
+pub scte35_packet_take_answers : Answers scte35_packet_take.Asked scte35_packet_take.Learnt (λ κ r e. r) (λ κ a. taken_number (taken_of (state_in a.0.now) a.1.0.now a.1.1.0.now).answer)
+scte35_packet_take_answers = record { takes_any = λ κ a. tt; is = λ κ a r e l. l.0 }
 
-pub scte35-packet-take-leaves-the-state : Answers scte35-packet-take.Asked scte35-packet-take.Learnt (λ κ r e. e.0.now) (λ κ a. keptTaken a.0.now (taken_of (stateIn a.0.now) a.1.0.now a.1.1.0.now).answer)
-scte35-packet-take-leaves-the-state = record { takes-any = λ κ a. tt; is = λ κ a r e l. l.1.0 }
+pub scte35_packet_take_leaves_the_state : Answers scte35_packet_take.Asked scte35_packet_take.Learnt (λ κ r e. e.0.now) (λ κ a. kept_taken a.0.now (taken_of (state_in a.0.now) a.1.0.now a.1.1.0.now).answer)
+scte35_packet_take_leaves_the_state = record { takes_any = λ κ a. tt; is = λ κ a r e l. l.1.0 }
 
-pub scte35-packet-take-leaves : Answers scte35-packet-take.Asked scte35-packet-take.Learnt (λ κ r e. e.1.1.0.now) (λ κ a. (taken_of (stateIn a.0.now) a.1.0.now a.1.1.0.now).buffer)
-scte35-packet-take-leaves = record { takes-any = λ κ a. tt; is = λ κ a r e l. l.1.1 }
+pub scte35_packet_take_leaves : Answers scte35_packet_take.Asked scte35_packet_take.Learnt (λ κ r e. e.1.1.0.now) (λ κ a. (taken_of (state_in a.0.now) a.1.0.now a.1.1.0.now).buffer)
+scte35_packet_take_leaves = record { takes_any = λ κ a. tt; is = λ κ a r e l. l.1.1 }

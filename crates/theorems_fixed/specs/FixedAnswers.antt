@@ -9,5 +9,5 @@ use Rattle.std.specs.Prelude.{◌≡◌}
 module _ {K : Type 0} {A R E : K → Type 0} (asked : (κ : K) → A κ → Type 0) (learnt : (κ : K) → A κ → R κ → E κ → Type 0) where
   -- The function takes any arguments; and what is seen of its answer and of its parameters at exit is what the definition, `by`, gives of the arguments
   pub record Answers {S : Type 0} (see : (κ : K) → R κ → E κ → S) (by : (κ : K) → A κ → S) : Type 0 where
-    pub takes-any : (κ : K) (a : A κ) → asked κ a
+    pub takes_any : (κ : K) (a : A κ) → asked κ a
     pub is : (κ : K) (a : A κ) (r : R κ) (e : E κ) → learnt κ a r e → see κ r e ≡ by κ a

@@ -7,15 +7,15 @@ use native.Mathlib.Omega.{arith}
 use lib.Dec.{leb}
 use lib.ListN.{length, take, drop}
 use borrow.Author.Tests.{le-leb, lt-leb}
-use Rattle.command.specs.Command.{componentsOf, array, ofInsert}
+use Rattle.command.specs.Command.{components_of, array, of_insert}
 use Rattle.command.specs.declared.SpliceCommand.{SpliceCommand}
 use Rattle.command.specs.declared.components.InsertComponent.{InsertComponent}
-use Rattle.command_measure.specs.Made.{commandMade}
+use Rattle.command_measure.specs.Made.{command_made}
 use Rattle.descriptor_writer.specs.Stores.{Writes}
-use Rattle.bit_stores.specs.Written.{answer_of, laterOf}
+use Rattle.bit_stores.specs.Written.{answer_of, later_of}
 use Rattle.bit_stores.specs.declared.Written.{Written}
-use Rattle.section.specs.Full.{besideCommand, besideSection, fullSectionOf}
-use Rattle.section.specs.Section.{commandBytes, sectionOf}
+use Rattle.section.specs.Full.{beside_command, beside_section, full_section_of}
+use Rattle.section.specs.Section.{command_bytes, section_of}
 use Rattle.section.specs.declared.SectionRead.{SectionRead}
 use Rattle.section.specs.declared.Section.{Section}
 use Rattle.section.specs.declared.full.FullSection.{FullSection}
@@ -24,7 +24,7 @@ use Rattle.table.specs.Bits.{pick}
 use Rattle.upid.proofs.Laws.{by_cases}
 use lib.Seq.{take_at}
 use Rattle.descriptor.specs.declared.Descriptor.{Descriptor}
-use Rattle.descriptor_measure.specs.Writing.{descriptorMade}
+use Rattle.descriptor_measure.specs.Writing.{descriptor_made}
 use Rattle.descriptor_loop.specs.Cover.{run_of}
 use Rattle.descriptor_loop.proofs.Lists.{walked}
 use Rattle.descriptor_loop.specs.Items.{step_of, reading_of, Listed, items_of}
@@ -39,36 +39,36 @@ use Rattle.table.specs.Writing.{Made, made}
 use Rattle.theorems_functions.specs.Calls.{Puts}
 
 -- bytes that are made are put
-pub puts : (b target : List ℕ) → Puts b target (answer_of (made b) target) (laterOf (made b) target)
-unfolding answer_of laterOf
+pub puts : (b target : List ℕ) → Puts b target (answer_of (made b) target) (later_of (made b) target)
+unfolding answer_of later_of
 puts b target = record {
   fits = λ h. (rw (le-leb (length b) (length target) h), rw (le-leb (length b) (length target) h));
   short = λ h. (rw (lt-leb (length b) (length target) h), rw (lt-leb (length b) (length target) h));
 }
 
-pub puts-made : (m : Made) (b target : List ℕ) (answer : Written) (later : List ℕ) → m ≡ made b → Writes m target later answer → Puts b target answer later
-puts-made m b target answer later e w =
+pub puts_made : (m : Made) (b target : List ℕ) (answer : Written) (later : List ℕ) → m ≡ made b → Writes m target later answer → Puts b target answer later
+puts_made m b target answer later e w =
     let a : answer ≡ answer_of (made b) target = w.answer ∙ ap (λ (n : Made). answer_of n target) e in
-    let l : later ≡ laterOf (made b) target = w.target-later ∙ ap (λ (n : Made). laterOf n target) e in
+    let l : later ≡ later_of (made b) target = w.target_later ∙ ap (λ (n : Made). later_of n target) e in
     rw (a, l) (puts b target)
 
 -- a command that is no insert is written without its components
-pub beside-serves : (c : SpliceCommand) (payload lent : List ℕ) → commandMade c (besideCommand c payload) lent ≡ commandMade c (componentsOf payload) lent
-unfolding commandMade
-beside-serves SpliceCommand.SpliceNull payload lent = refl
-beside-serves (SpliceCommand.SpliceInsert i) payload lent = refl
-beside-serves (SpliceCommand.TimeSignal t) payload lent = refl
-beside-serves SpliceCommand.BandwidthReservation payload lent = refl
-beside-serves (SpliceCommand.PrivateCommand p) payload lent = refl
+pub beside_serves : (c : SpliceCommand) (payload lent : List ℕ) → command_made c (beside_command c payload) lent ≡ command_made c (components_of payload) lent
+unfolding command_made
+beside_serves SpliceCommand.SpliceNull payload lent = refl
+beside_serves (SpliceCommand.SpliceInsert i) payload lent = refl
+beside_serves (SpliceCommand.TimeSignal t) payload lent = refl
+beside_serves SpliceCommand.BandwidthReservation payload lent = refl
+beside_serves (SpliceCommand.PrivateCommand p) payload lent = refl
 
 -- ---- the full reading of a section that is accepted
-pub full-read : (s : List ℕ) (w : FullSection) (x : Section) → w ≡ fullSectionOf s → w.read ≡ SectionRead.Is x → sectionOf s ≡ SectionRead.Is x
-unfolding fullSectionOf
-full-read s w x e r = ap (λ (v : FullSection). v.read) (sym e) ∙ r
+pub full_read : (s : List ℕ) (w : FullSection) (x : Section) → w ≡ full_section_of s → w.read ≡ SectionRead.Is x → section_of s ≡ SectionRead.Is x
+unfolding full_section_of
+full_read s w x e r = ap (λ (v : FullSection). v.read) (sym e) ∙ r
 
-pub full-beside : (s : List ℕ) (w : FullSection) (x : Section) → w ≡ fullSectionOf s → w.read ≡ SectionRead.Is x → w.components ≡ besideCommand x.command (commandBytes s)
-unfolding fullSectionOf
-full-beside s w x e r = ap (λ (v : FullSection). v.components) e ∙ ap (λ (v : SectionRead). besideSection v (commandBytes s)) (ap (λ (v : FullSection). v.read) (sym e) ∙ r)
+pub full_beside : (s : List ℕ) (w : FullSection) (x : Section) → w ≡ full_section_of s → w.read ≡ SectionRead.Is x → w.components ≡ beside_command x.command (command_bytes s)
+unfolding full_section_of
+full_beside s w x e r = ap (λ (v : FullSection). v.components) e ∙ ap (λ (v : SectionRead). beside_section v (command_bytes s)) (ap (λ (v : FullSection). v.read) (sym e) ∙ r)
 
 -- ---- an item that is read at its offset and written again
 
@@ -81,34 +81,34 @@ both : {loop : List ℕ} {xs : List Listed} → All (WrittenAgain loop) xs → A
 both none none = none
 both (more w ws) (more h hs) = more (record { written = w; here = h }) (both ws hs)
 
-pub all-again : (loop : List ℕ) → length loop ≤ 4076 → All (WrittenAgain loop) (items_of loop) → All (Again loop) (items_of loop)
+pub all_again : (loop : List ℕ) → length loop ≤ 4076 → All (WrittenAgain loop) (items_of loop) → All (Again loop) (items_of loop)
 unfolding reading_of
-all-again loop fits h = both h (each_item (λ o inside. refl) (walked loop fits))
+all_again loop fits h = both h (each_item (λ o inside. refl) (walked loop fits))
 
 -- so of what is said of each item: it is what is stepped to at its offset
-pub with-steps : {P : Listed → Type 0} (loop : List ℕ) → length loop ≤ 4076 → All P (items_of loop) → All (λ (y : Listed). P y × (y.step ≡ step_of loop y.offset)) (items_of loop)
-with-steps {P = P} loop fits h = paired h (each_item (λ o inside. refl) (walked loop fits))
+pub with_steps : {P : Listed → Type 0} (loop : List ℕ) → length loop ≤ 4076 → All P (items_of loop) → All (λ (y : Listed). P y × (y.step ≡ step_of loop y.offset)) (items_of loop)
+with_steps {P = P} loop fits h = paired h (each_item (λ o inside. refl) (walked loop fits))
   where
     paired : {xs : List Listed} → All P xs → All (λ (y : Listed). y.step ≡ step_of loop y.offset) xs → All (λ (y : Listed). P y × (y.step ≡ step_of loop y.offset)) xs
     paired none none = none
     paired (more p ps) (more q qs) = more (p, q) (paired ps qs)
 
 pub item_back : (loop : List ℕ) (y : Listed) → Again loop y → (r : Reading) (d : Descriptor) → r ≡ reading_of loop y.offset → r.step.item ≡ Item.Is d
-    → (target : List ℕ) (answer : Written) (later : List ℕ) → Writes (descriptorMade d r.step.identifier r.beside loop) target later answer → Puts (run_of loop y) target answer later
+    → (target : List ℕ) (answer : Written) (later : List ℕ) → Writes (descriptor_made d r.step.identifier r.beside loop) target later answer → Puts (run_of loop y) target answer later
 item_back loop y h r d e is target answer later p =
     let z : y.step ≡ r.step = h.here ∙ ap (λ (v : Reading). v.step) (sym e) in
     let k : Item.Is d ≡ Item.Is h.written.descriptor = sym is ∙ ap (λ (v : Step). v.item) (sym z) ∙ h.written.is in
     let same : d ≡ h.written.descriptor = cc in
-    let m : descriptorMade d r.step.identifier r.beside loop ≡ made (run_of loop y) =
-    ap (λ (v : Descriptor). descriptorMade v r.step.identifier r.beside loop) same
-    ∙ ap (λ (v : Step). descriptorMade h.written.descriptor v.identifier r.beside loop) (sym z)
-    ∙ ap (λ (v : Reading). descriptorMade h.written.descriptor y.step.identifier v.beside loop) e
+    let m : descriptor_made d r.step.identifier r.beside loop ≡ made (run_of loop y) =
+    ap (λ (v : Descriptor). descriptor_made v r.step.identifier r.beside loop) same
+    ∙ ap (λ (v : Step). descriptor_made h.written.descriptor v.identifier r.beside loop) (sym z)
+    ∙ ap (λ (v : Reading). descriptor_made h.written.descriptor y.step.identifier v.beside loop) e
     ∙ h.written.writes in
-    puts-made _ (run_of loop y) target answer later m p
+    puts_made _ (run_of loop y) target answer later m p
 
 -- an accepted write of bytes has them at the target's start
-pub put-start : (b target : List ℕ) (n : ℕ) (later : List ℕ) → Puts b target (Written.Wrote n) later → take n later ≡ b
-put-start b target n later w =
+pub put_start : (b target : List ℕ) (n : ℕ) (later : List ℕ) → Puts b target (Written.Wrote n) later → take n later ≡ b
+put_start b target n later w =
     by_cases (length target) (length b)
     (λ short. zero_one (cc (w.short short).0))
     (λ fits.

@@ -7,34 +7,34 @@ use native.Mathlib.Omega.{arith}
 use borrow.Author.Tests.{eqb-true, eqb-false}
 use lib.Dec.{eqb, ltb, leb}
 use lib.ListN.{length, take, drop, replicate, length-append, length-replicate}
-use Rattle.bit_stores.specs.Written.{answer_of, laterOf}
+use Rattle.bit_stores.specs.Written.{answer_of, later_of}
 use Rattle.bit_stores.specs.declared.Written.{Written}
-use Rattle.c_command_writer.proofs.Answers as command-answers
-use Rattle.c_command_writer.proofs.Given.{given-typed}
+use Rattle.c_command_writer.proofs.Answers as command_answers
+use Rattle.c_command_writer.proofs.Given.{given_typed}
 use Rattle.c_command_writer.proofs.Typed.{TypedMode, TypedDetail, Typed}
-use Rattle.c_command_writer.proofs.Words.{places-length}
-use Rattle.c_command_writer.specs.CommandGiven.{commandGiven, componentFrom, componentsFrom, wordsRefusal, commandRefusal}
-use Rattle.c_command_writer.specs.CommandWords.{commandWords, insertComponentsIn, CommandIs, commandSeen}
-use Rattle.c_command_writer.specs.Words.{word, within, same, refusalOf, seenFirst, lowerOf, lowest, noLess, flatWritten}
+use Rattle.c_command_writer.proofs.Words.{places_length}
+use Rattle.c_command_writer.specs.CommandGiven.{command_given, component_from, components_from, words_refusal, command_refusal}
+use Rattle.c_command_writer.specs.CommandWords.{command_words, insert_components_in, CommandIs, command_seen}
+use Rattle.c_command_writer.specs.Words.{word, within, same, refusal_of, seen_first, lower_of, lowest, no_less, flat_written}
 use Rattle.c_command_writer.specs.declared.FlatWritten.{FlatWritten}
-use Rattle.c_section.specs.Flat.{flatHeader}
-use Rattle.c_section.specs.FlatCommand.{flatCommand, noCommand}
-use Rattle.c_section_writer.specs.SectionGiven.{headerFrom, headerRefusal, either, sectionWordsMade}
-use Rattle.c_section_writer.specs.SectionWords.{headerWords, headerWidths, HeaderIs}
-use Rattle.canonical_form.specs.Same.{withoutPlace, SameHeader}
-use Rattle.command.specs.Command.{array, withView, countIn, insertCount}
+use Rattle.c_section.specs.Flat.{flat_header}
+use Rattle.c_section.specs.FlatCommand.{flat_command, no_command}
+use Rattle.c_section_writer.specs.SectionGiven.{header_from, header_refusal, either, section_words_made}
+use Rattle.c_section_writer.specs.SectionWords.{header_words, header_widths, HeaderIs}
+use Rattle.canonical_form.specs.Same.{without_place, SameHeader}
+use Rattle.command.specs.Command.{array, with_view, count_in, insert_count}
 use Rattle.command.specs.Insert.{blank, count}
 use Rattle.command.specs.declared.CommandRead.{CommandRead}
 use Rattle.command.specs.declared.SpliceCommand.{SpliceCommand}
 use Rattle.command.specs.declared.components.InsertComponent.{InsertComponent}
 use Rattle.command.specs.declared.insert.SpliceDetail.{SpliceDetail}
 use Rattle.command.specs.declared.insert.SpliceMode.{SpliceMode}
-use Rattle.command_measure.specs.Made.{commandMade}
+use Rattle.command_measure.specs.Made.{command_made}
 use Rattle.header.specs.declared.header.SpliceInfoHeader.{SpliceInfoHeader}
-use Rattle.names.proofs.Algorithms.{algorithm-laws}
-use Rattle.section.specs.Section.{moved, movedRead}
-use Rattle.section_writer.specs.Writing.{type_of, sectionMade}
-use Rattle.table.proofs.Lists.{zero_one, and-true}
+use Rattle.names.proofs.Algorithms.{algorithm_laws}
+use Rattle.section.specs.Section.{moved, moved_read}
+use Rattle.section_writer.specs.Writing.{type_of, section_made}
+use Rattle.table.proofs.Lists.{zero_one, and_true}
 use Rattle.table.specs.Bits.{pick, AllBytes}
 use Rattle.table.specs.Lent.{shifted, placeless}
 use Rattle.table.specs.Writing.{Made, made, refused}
@@ -45,25 +45,25 @@ use Rattle.theorems_functions.specs.Flat.{WrittenOf}
 
 -- ---- words that are not refused
 
-pub unless-refused : (n : ℕ) (m : Made) (b : List ℕ) → noLess n m ≡ made b → (n ≡ 0) × (m ≡ made b)
-unfolding noLess
-unless-refused n m b e = go (eqb n 0) refl e
+pub unless_refused_lem : (n : ℕ) (m : Made) (b : List ℕ) → no_less n m ≡ made b → (n ≡ 0) × (m ≡ made b)
+unfolding no_less
+unless_refused_lem n m b e = go (eqb n 0) refl e
   where
     go : (t : Bool) → eqb n 0 ≡ t → pick t m (refused (lowest n m)) ≡ made b → (n ≡ 0) × (m ≡ made b)
     go true z e = (eqb-true n 0 z, e)
     go false z e = zero_one cc
 
-none_of : (fits own : Bool) → refusalOf fits own ≡ 0 → (fits ≡ true) × (own ≡ true)
+none_of : (fits own : Bool) → refusal_of fits own ≡ 0 → (fits ≡ true) × (own ≡ true)
 none_of true true e = (refl, refl)
 none_of true false e = absurd (eqb-false 33 0 refl e)
 none_of false own e = absurd (eqb-false 32 0 refl e)
 
-seen_none : (s : Bool) (n : ℕ) → seenFirst s n ≡ 0 → (s ≡ true) × (n ≡ 0)
+seen_none : (s : Bool) (n : ℕ) → seen_first s n ≡ 0 → (s ≡ true) × (n ≡ 0)
 seen_none true n e = (refl, e)
 seen_none false n e = absurd (eqb-false 31 0 refl e)
 
-both-none : (m n : ℕ) → either m n ≡ 0 → (m ≡ 0) × (n ≡ 0)
-both-none m n e = go (eqb m 0) refl (eqb n 0) refl (ltb n m) e
+both_none : (m n : ℕ) → either m n ≡ 0 → (m ≡ 0) × (n ≡ 0)
+both_none m n e = go (eqb m 0) refl (eqb n 0) refl (ltb n m) e
   where
     go : (a : Bool) → eqb m 0 ≡ a → (b : Bool) → eqb n 0 ≡ b → (c : Bool) → pick a n (pick b m (pick c n m)) ≡ 0 → (m ≡ 0) × (n ≡ 0)
     go true p b q c e = (eqb-true m 0 p, e)
@@ -71,29 +71,29 @@ both-none m n e = go (eqb m 0) refl (eqb n 0) refl (ltb n m) e
     go false p false q true e = absurd (eqb-false n 0 q e)
     go false p false q false e = absurd (eqb-false m 0 p e)
 
-few-typed : (d : SpliceCommand) → Typed d → countIn d ≤ 255
-few-typed SpliceCommand.SpliceNull h = omega arith
-few-typed (SpliceCommand.SpliceInsert x) h = detail x.splice_detail h.2
+few_typed : (d : SpliceCommand) → Typed d → count_in d ≤ 255
+few_typed SpliceCommand.SpliceNull h = omega arith
+few_typed (SpliceCommand.SpliceInsert x) h = detail x.splice_detail h.2
   where
     mode : (m : SpliceMode) → TypedMode m → count m ≤ 255
     mode (SpliceMode.Program t) h = omega arith
     mode (SpliceMode.Components n) h = omega (arith, h)
 
-    detail : (d : SpliceDetail) → TypedDetail d → insertCount d ≤ 255
+    detail : (d : SpliceDetail) → TypedDetail d → insert_count d ≤ 255
     detail SpliceDetail.Cancel h = omega arith
     detail (SpliceDetail.Insert i) h = mode i.splice_mode h.3
-few-typed (SpliceCommand.TimeSignal t) h = omega arith
-few-typed SpliceCommand.BandwidthReservation h = omega arith
-few-typed (SpliceCommand.PrivateCommand p) h = omega arith
+few_typed (SpliceCommand.TimeSignal t) h = omega arith
+few_typed SpliceCommand.BandwidthReservation h = omega arith
+few_typed (SpliceCommand.PrivateCommand p) h = omega arith
 
 -- what is made of a section is refused with 31 to 35, or made
-makes-some : (h : SpliceInfoHeader) (d : SpliceCommand) (places : List InsertComponent) (lent loop : List ℕ) {m : Made} → SectionMakes h d places lent loop m → (n : ℕ) → m ≡ refused n → n ≡ 0 → ⊥
-makes-some h d places lent loop (SectionMakes.outside a) n e z = let q : 31 ≡ n = cc in omega arith
-makes-some h d places lent loop (SectionMakes.over a b) n e z = let q : 32 ≡ n = cc in omega arith
-makes-some h d places lent loop (SectionMakes.nobodys a b f) n e z = let q : 33 ≡ n = cc in omega arith
-makes-some h d places lent loop (SectionMakes.long a b p x y g) n e z = let q : 34 ≡ n = cc in omega arith
-makes-some h d places lent loop (SectionMakes.other a b p x y g i) n e z = let q : 35 ≡ n = cc in omega arith
-makes-some h d places lent loop (SectionMakes.its a b x) n e z = zero_one cc
+makes_some : (h : SpliceInfoHeader) (d : SpliceCommand) (places : List InsertComponent) (lent loop : List ℕ) {m : Made} → SectionMakes h d places lent loop m → (n : ℕ) → m ≡ refused n → n ≡ 0 → ⊥
+makes_some h d places lent loop (SectionMakes.outside a) n e z = let q : 31 ≡ n = cc in omega arith
+makes_some h d places lent loop (SectionMakes.over a b) n e z = let q : 32 ≡ n = cc in omega arith
+makes_some h d places lent loop (SectionMakes.nobodys a b f) n e z = let q : 33 ≡ n = cc in omega arith
+makes_some h d places lent loop (SectionMakes.long a b p x y g) n e z = let q : 34 ≡ n = cc in omega arith
+makes_some h d places lent loop (SectionMakes.other a b p x y g i) n e z = let q : 35 ≡ n = cc in omega arith
+makes_some h d places lent loop (SectionMakes.its a b x) n e z = zero_one cc
 
 pub array_size : (cs : List InsertComponent) → length cs ≤ 255 → length (array cs) ≡ 255
 unfolding array
@@ -102,154 +102,154 @@ array_size cs h = omega (arith, length-append cs (replicate (255 - length cs) bl
 -- ---- what was made of them
 
 -- a command of words counts no more than a byte does
-pub few-given : (command : List ℕ) → countIn (commandGiven command) ≤ 255
-few-given command = few-typed (commandGiven command) (given-typed command)
+pub few_given : (command : List ℕ) → count_in (command_given command) ≤ 255
+few_given command = few_typed (command_given command) (given_typed command)
 
 -- and words that are not refused are its own
-pub own-words : (command components lent : List ℕ) → commandRefusal (commandGiven command) command components lent ≡ 0
-    → CommandIs command components (commandGiven command) (command-answers.listed command components lent)
-unfolding commandRefusal wordsRefusal
-own-words command components lent e =
-    let s = seen_none (commandSeen command lent) (wordsRefusal (commandGiven command) command components) e in
-    let o = none_of (command-answers.fits command components lent) (command-answers.own command components lent) s.1 in
-    command-answers.given_is command components lent o.1
+pub own_words : (command components lent : List ℕ) → command_refusal (command_given command) command components lent ≡ 0
+    → CommandIs command components (command_given command) (command_answers.listed command components lent)
+unfolding command_refusal words_refusal
+own_words command components lent e =
+    let s = seen_none (command_seen command lent) (words_refusal (command_given command) command components) e in
+    let o = none_of (command_answers.fits command components lent) (command_answers.own command components lent) s.1 in
+    command_answers.given_is command components lent o.1
 
 -- its places fill an array
-pub own-size : (command components lent : List ℕ) → length (array (command-answers.listed command components lent)) ≡ 255
-own-size command components lent =
-    array_size (command-answers.listed command components lent) (omega (arith, places-length componentFrom 3 (countIn (commandGiven command)) (insertComponentsIn components), few-given command))
+pub own_size : (command components lent : List ℕ) → length (array (command_answers.listed command components lent)) ≡ 255
+own_size command components lent =
+    array_size (command_answers.listed command components lent) (omega (arith, places_length component_from 3 (count_in (command_given command)) (insert_components_in components), few_given command))
 
 module _ (header command components lent loop : List ℕ) where
   abbrev c : SpliceCommand
-  c = commandGiven command
+  c = command_given command
 
   abbrev cs : List InsertComponent
-  cs = command-answers.listed command components lent
+  cs = command_answers.listed command components lent
 
   pub record Made-of (b : List ℕ) : Type 0 where
-    pub head : same (headerWords (flatHeader (headerFrom header))) header ≡ true
+    pub head : same (header_words (flat_header (header_from header))) header ≡ true
     -- no word of the command is refused
-    pub taken : commandRefusal c command components lent ≡ 0
-    pub overall : sectionMade (headerFrom header) (commandMade c (array cs) lent) (type_of c) loop ≡ made b
+    pub taken : command_refusal c command components lent ≡ 0
+    pub overall : section_made (header_from header) (command_made c (array cs) lent) (type_of c) loop ≡ made b
 
-  pub made_so : (b : List ℕ) → sectionWordsMade header command components lent loop ≡ made b → Made-of b
-  unfolding sectionWordsMade headerRefusal componentsFrom
+  pub made_so : (b : List ℕ) → section_words_made header command components lent loop ≡ made b → Made-of b
+  unfolding section_words_made header_refusal components_from
   made_so b e =
-      let u = unless-refused _ _ b e in
-      let v = both-none (headerRefusal header) (commandRefusal c command components lent) u.0 in
-      let h = none_of (within headerWidths header) (same (headerWords (flatHeader (headerFrom header))) header) v.0 in
+      let u = unless_refused_lem _ _ b e in
+      let v = both_none (header_refusal header) (command_refusal c command components lent) u.0 in
+      let h = none_of (within header_widths header) (same (header_words (flat_header (header_from header))) header) v.0 in
       record { head = h.1; taken = v.1; overall = u.1 }
 
   -- what is made of the value that they are
-  pub makes : AllBytes lent → AllBytes loop → SectionMakes (headerFrom header) c (array cs) lent loop (sectionMade (headerFrom header) (commandMade c (array cs) lent) (type_of c) loop)
-  makes a l = writing.what-is-made-of-a-section (headerFrom header) c (array cs) lent loop (own-size command components lent) (few-given command) a l
+  pub makes : AllBytes lent → AllBytes loop → SectionMakes (header_from header) c (array cs) lent loop (section_made (header_from header) (command_made c (array cs) lent) (type_of c) loop)
+  makes a l = writing.what_is_made_of_a_section (header_from header) c (array cs) lent loop (own_size command components lent) (few_given command) a l
 
   -- a refusal has a number
-  section-some : (n : ℕ) → sectionMade (headerFrom header) (commandMade c (array cs) lent) (type_of c) loop ≡ refused n → AllBytes lent → AllBytes loop → n ≡ 0 → ⊥
-  section-some n e a l = makes-some (headerFrom header) c (array cs) lent loop (makes a l) n e
+  section_some : (n : ℕ) → section_made (header_from header) (command_made c (array cs) lent) (type_of c) loop ≡ refused n → AllBytes lent → AllBytes loop → n ≡ 0 → ⊥
+  section_some n e a l = makes_some (header_from header) c (array cs) lent loop (makes a l) n e
 
-  written_of : AllBytes lent → AllBytes loop → (b : List ℕ) → sectionWordsMade header command components lent loop ≡ made b → WrittenOf header command components lent loop b
-  unfolding headerFrom
+  written_of : AllBytes lent → AllBytes loop → (b : List ℕ) → section_words_made header command components lent loop ≡ made b → WrittenOf header command components lent loop b
+  unfolding header_from
   written_of a l b e =
       let m = made_so b e in
       record {
-        own-header = headerFrom header;
-        own-command = c;
-        own-components = cs;
-        header_is = record { own = m.head; writable = algorithm-laws.is-writable (word header 3 % 256) };
-        command-is = own-words command components lent m.taken;
-        section = writing.what-is-written-reads-back (headerFrom header) c (array cs) lent loop (own-size command components lent) (few-given command) a l b m.overall;
+        own_header = header_from header;
+        own_command = c;
+        own_components = cs;
+        header_is = record { own = m.head; writable = algorithm_laws.is_writable (word header 3 % 256) };
+        command_is_lem = own_words command components lent m.taken;
+        section = writing.what_is_written_reads_back (header_from header) c (array cs) lent loop (own_size command components lent) (few_given command) a l b m.overall;
       }
 
 -- ---- the answer
 
-lowest-some : (k : ℕ) (m : Made) → (k ≡ 0 → ⊥) → ((n : ℕ) → m ≡ refused n → n ≡ 0 → ⊥) → lowest k m ≡ 0 → ⊥
-lowest-some k (made b) f g e = f e
-lowest-some k (refused n) f g e = go (ltb n k) e
+lowest_some : (k : ℕ) (m : Made) → (k ≡ 0 → ⊥) → ((n : ℕ) → m ≡ refused n → n ≡ 0 → ⊥) → lowest k m ≡ 0 → ⊥
+lowest_some k (made b) f g e = f e
+lowest_some k (refused n) f g e = go (ltb n k) e
   where
     go : (t : Bool) → pick t n k ≡ 0 → ⊥
     go true e = g n refl e
     go false e = f e
 
-pub less-some : (k : ℕ) (m : Made) → ((n : ℕ) → m ≡ refused n → n ≡ 0 → ⊥) → (n : ℕ) → noLess k m ≡ refused n → n ≡ 0 → ⊥
-unfolding noLess
-less-some k m g n e z = go (eqb k 0) refl e
+pub less_some : (k : ℕ) (m : Made) → ((n : ℕ) → m ≡ refused n → n ≡ 0 → ⊥) → (n : ℕ) → no_less k m ≡ refused n → n ≡ 0 → ⊥
+unfolding no_less
+less_some k m g n e z = go (eqb k 0) refl e
   where
     go : (t : Bool) → eqb k 0 ≡ t → pick t m (refused (lowest k m)) ≡ refused n → ⊥
     go true f e = g n e z
-    go false f e = let q : lowest k m ≡ n = cc in lowest-some k m (eqb-false k 0 f) g (q ∙ z)
+    go false f e = let q : lowest k m ≡ n = cc in lowest_some k m (eqb-false k 0 f) g (q ∙ z)
 
-answer-some : (m : Made) (target : List ℕ) → ((n : ℕ) → m ≡ refused n → n ≡ 0 → ⊥) → (n : ℕ) → answer_of m target ≡ Written.Refused n → n ≡ 0 → ⊥
+answer_some : (m : Made) (target : List ℕ) → ((n : ℕ) → m ≡ refused n → n ≡ 0 → ⊥) → (n : ℕ) → answer_of m target ≡ Written.Refused n → n ≡ 0 → ⊥
 unfolding answer_of
-answer-some (refused k) target g n e z = let q : k ≡ n = cc in g k refl (q ∙ z)
-answer-some (made b) target g n e z = go (leb (length b) (length target)) e
+answer_some (refused k) target g n e z = let q : k ≡ n = cc in g k refl (q ∙ z)
+answer_some (made b) target g n e z = go (leb (length b) (length target)) e
   where
     go : (t : Bool) → pick t (Written.Wrote (length b)) (Written.Refused 36) ≡ Written.Refused n → ⊥
     go true e = zero_one cc
     go false e = let q : 36 ≡ n = cc in omega arith
 
-pub accepted-write : (m : Made) (target : List ℕ) → ((n : ℕ) → m ≡ refused n → n ≡ 0 → ⊥) → (flatWritten (answer_of m target)).refusal ≡ 0
-    → (b : List ℕ) × (m ≡ made b) × (take (flatWritten (answer_of m target)).«length» (laterOf m target) ≡ b) × (length b ≡ (flatWritten (answer_of m target)).«length»)
-unfolding flatWritten
-accepted-write m target some z = go (answer_of m target) refl z
+pub accepted_write : (m : Made) (target : List ℕ) → ((n : ℕ) → m ≡ refused n → n ≡ 0 → ⊥) → (flat_written (answer_of m target)).refusal ≡ 0
+    → (b : List ℕ) × (m ≡ made b) × (take (flat_written (answer_of m target)).«length» (later_of m target) ≡ b) × (length b ≡ (flat_written (answer_of m target)).«length»)
+unfolding flat_written
+accepted_write m target some z = go (answer_of m target) refl z
   where
-    go : (w : Written) → answer_of m target ≡ w → (flatWritten w).refusal ≡ 0 → (b : List ℕ) × (m ≡ made b) × (take (flatWritten w).«length» (laterOf m target) ≡ b) × (length b ≡ (flatWritten w).«length»)
-    go (Written.Wrote n) e z = let c = writing.an-accepted-write-changes-only-its-result m target n e in (c.result, c.is, c.start, c.number)
-    go (Written.Refused n) e z = absurd (answer-some m target some n e z)
+    go : (w : Written) → answer_of m target ≡ w → (flat_written w).refusal ≡ 0 → (b : List ℕ) × (m ≡ made b) × (take (flat_written w).«length» (later_of m target) ≡ b) × (length b ≡ (flat_written w).«length»)
+    go (Written.Wrote n) e z = let c = writing.an_accepted_write_changes_only_its_result m target n e in (c.result, c.is, c.start, c.number)
+    go (Written.Refused n) e z = absurd (answer_some m target some n e z)
 
 -- the bytes that an accepted write left are what was made
-pub written-bytes : (m : Made) (target : List ℕ) (answer : FlatWritten) (later : List ℕ) → ((n : ℕ) → m ≡ refused n → n ≡ 0 → ⊥) → answer ≡ flatWritten (answer_of m target) → later ≡ laterOf m target
+pub written_bytes : (m : Made) (target : List ℕ) (answer : FlatWritten) (later : List ℕ) → ((n : ℕ) → m ≡ refused n → n ≡ 0 → ⊥) → answer ≡ flat_written (answer_of m target) → later ≡ later_of m target
     → answer.refusal ≡ 0 → m ≡ made (take answer.«length» later)
-written-bytes m target answer later some ea el z =
-    let w = accepted-write m target some (ap (λ (v : FlatWritten). v.refusal) (sym ea) ∙ z) in
-    let b : take answer.«length» later ≡ w.0 = ap (λ (v : FlatWritten). take v.«length» later) ea ∙ ap (take (flatWritten (answer_of m target)).«length») el ∙ w.2 in
+written_bytes m target answer later some ea el z =
+    let w = accepted_write m target some (ap (λ (v : FlatWritten). v.refusal) (sym ea) ∙ z) in
+    let b : take answer.«length» later ≡ w.0 = ap (λ (v : FlatWritten). take v.«length» later) ea ∙ ap (take (flat_written (answer_of m target)).«length») el ∙ w.2 in
     w.1 ∙ ap made (sym b)
 
 -- of words that are accepted
-pub section-bytes : (header command components lent loop target : List ℕ) (answer : FlatWritten) (later : List ℕ) → AllBytes lent → AllBytes loop
-    → answer ≡ flatWritten (answer_of (sectionWordsMade header command components lent loop) target) → later ≡ laterOf (sectionWordsMade header command components lent loop) target → answer.refusal ≡ 0
-    → sectionWordsMade header command components lent loop ≡ made (take answer.«length» later)
-unfolding sectionWordsMade componentsFrom
-section-bytes header command components lent loop target answer later a l ea el z =
-    let m : Made = sectionWordsMade header command components lent loop in
-    let some : (n : ℕ) → m ≡ refused n → n ≡ 0 → ⊥ = less-some _ _ (λ n e. section-some header command components lent loop n e a l) in
-    written-bytes m target answer later some ea el z
+pub section_bytes : (header command components lent loop target : List ℕ) (answer : FlatWritten) (later : List ℕ) → AllBytes lent → AllBytes loop
+    → answer ≡ flat_written (answer_of (section_words_made header command components lent loop) target) → later ≡ later_of (section_words_made header command components lent loop) target → answer.refusal ≡ 0
+    → section_words_made header command components lent loop ≡ made (take answer.«length» later)
+unfolding section_words_made components_from
+section_bytes header command components lent loop target answer later a l ea el z =
+    let m : Made = section_words_made header command components lent loop in
+    let some : (n : ℕ) → m ≡ refused n → n ≡ 0 → ⊥ = less_some _ _ (λ n e. section_some header command components lent loop n e a l) in
+    written_bytes m target answer later some ea el z
 
 pub written_back : (header command components lent loop target : List ℕ) (answer : FlatWritten) (later : List ℕ) → AllBytes lent → AllBytes loop
-    → answer ≡ flatWritten (answer_of (sectionWordsMade header command components lent loop) target) → later ≡ laterOf (sectionWordsMade header command components lent loop) target → answer.refusal ≡ 0
+    → answer ≡ flat_written (answer_of (section_words_made header command components lent loop) target) → later ≡ later_of (section_words_made header command components lent loop) target → answer.refusal ≡ 0
     → WrittenOf header command components lent loop (take answer.«length» later)
 written_back header command components lent loop target answer later a l ea el z =
-    written_of header command components lent loop a l _ (section-bytes header command components lent loop target answer later a l ea el z)
+    written_of header command components lent loop a l _ (section_bytes header command components lent loop target answer later a l ea el z)
 
 -- the words of a header with equal values are equal
-pub same-words : (g h : SpliceInfoHeader) → SameHeader g h → headerWords (flatHeader g) ≡ headerWords (flatHeader h)
-unfolding headerWords flatHeader
-same-words g h s = rw (s.version, s.encrypted, s.algorithm, s.adjustment, s.index, s.tiers)
+pub same_words : (g h : SpliceInfoHeader) → SameHeader g h → header_words (flat_header g) ≡ header_words (flat_header h)
+unfolding header_words flat_header
+same_words g h s = rw (s.version, s.encrypted, s.algorithm, s.adjustment, s.index, s.tiers)
 
 -- ---- the words of a command, but for its view's last two
-pub views-words : (f : View → View) (d : SpliceCommand) → take 19 (commandWords (flatCommand (withView f d))) ≡ take 19 (commandWords (flatCommand d))
-unfolding commandWords flatCommand noCommand
-views-words f SpliceCommand.SpliceNull = refl
-views-words f (SpliceCommand.SpliceInsert i) = refl
-views-words f (SpliceCommand.TimeSignal t) = refl
-views-words f SpliceCommand.BandwidthReservation = refl
-views-words f (SpliceCommand.PrivateCommand p) = refl
+pub views_words : (f : View → View) (d : SpliceCommand) → take 19 (command_words (flat_command (with_view f d))) ≡ take 19 (command_words (flat_command d))
+unfolding command_words flat_command no_command
+views_words f SpliceCommand.SpliceNull = refl
+views_words f (SpliceCommand.SpliceInsert i) = refl
+views_words f (SpliceCommand.TimeSignal t) = refl
+views_words f SpliceCommand.BandwidthReservation = refl
+views_words f (SpliceCommand.PrivateCommand p) = refl
 
-pub command-words : (x c d : SpliceCommand) → x ≡ moved 14 d → withoutPlace d ≡ withoutPlace c → take 19 (commandWords (flatCommand x)) ≡ take 19 (commandWords (flatCommand c))
+pub command_words_lem : (x c d : SpliceCommand) → x ≡ moved 14 d → without_place d ≡ without_place c → take 19 (command_words (flat_command x)) ≡ take 19 (command_words (flat_command c))
 unfolding moved
-command-words x c d e f =
-    ap (λ (y : SpliceCommand). take 19 (commandWords (flatCommand y))) e ∙ views-words (shifted 14) d ∙ sym (views-words placeless d)
-    ∙ ap (λ (y : SpliceCommand). take 19 (commandWords (flatCommand y))) f ∙ views-words placeless c
+command_words_lem x c d e f =
+    ap (λ (y : SpliceCommand). take 19 (command_words (flat_command y))) e ∙ views_words (shifted 14) d ∙ sym (views_words placeless d)
+    ∙ ap (λ (y : SpliceCommand). take 19 (command_words (flat_command y))) f ∙ views_words placeless c
 
-pub same-take : (n : ℕ) (own words : List ℕ) → same own words ≡ true → same (take n own) words ≡ true
+pub same_take : (n : ℕ) (own words : List ℕ) → same own words ≡ true → same (take n own) words ≡ true
 unfolding same
-same-take zero own words e = refl
-same-take (suc n) [] words e = refl
-same-take (suc n) (x ∷ own) words e =
-    let a = and-true (eqb (word words 0) x) (same own (drop 1 words)) e in
-    rw a.0 (same-take n own (drop 1 words) a.1)
+same_take zero own words e = refl
+same_take (suc n) [] words e = refl
+same_take (suc n) (x ∷ own) words e =
+    let a = and_true (eqb (word words 0) x) (same own (drop 1 words)) e in
+    rw a.0 (same_take n own (drop 1 words) a.1)
 
 -- the command that is read in a section is its payload's
-pub moved-command : (c : SpliceCommand) (r : CommandRead) (x : SpliceCommand) → r ≡ CommandRead.Is c → movedRead r ≡ CommandRead.Is x → x ≡ moved 14 c
-unfolding movedRead
-moved-command c r x e f = let z : CommandRead.Is (moved 14 c) ≡ CommandRead.Is x = sym (ap movedRead e) ∙ f in cc
+pub moved_command : (c : SpliceCommand) (r : CommandRead) (x : SpliceCommand) → r ≡ CommandRead.Is c → moved_read r ≡ CommandRead.Is x → x ≡ moved 14 c
+unfolding moved_read
+moved_command c r x e f = let z : CommandRead.Is (moved 14 c) ≡ CommandRead.Is x = sym (ap moved_read e) ∙ f in cc

@@ -1,10 +1,10 @@
 -- Demands over C: what the words of an answer say of the section.
 use Rattle.std.specs.Prelude.{ℕ, ◌+◌, ◌*◌, ◌-◌, ◌/◌, ◌%◌, ◌≤◌, ◌<◌, true, ◌&&◌, List, [], ◌∷◌, ◌++◌, ◌≡◌, eqb, leb, length, take, drop, get_or, replicate}
-use Rattle.c_command_writer.specs.CommandWords.{commandWords, CommandIs}
+use Rattle.c_command_writer.specs.CommandWords.{command_words, CommandIs}
 use Rattle.c_command_writer.specs.Words.{same}
 use Rattle.c_section.specs.declared.FlatView.{FlatView}
 use Rattle.c_section.specs.declared.sections.FlatSection.{FlatSection}
-use Rattle.c_section_writer.specs.SectionWords.{headerWords, HeaderIs}
+use Rattle.c_section_writer.specs.SectionWords.{header_words, HeaderIs}
 use Rattle.command.specs.Command.{array}
 use Rattle.command.specs.declared.SpliceCommand.{SpliceCommand}
 use Rattle.command.specs.declared.components.InsertComponent.{InsertComponent}
@@ -18,14 +18,14 @@ use Rattle.descriptor.specs.Descriptor.{by_kind}
 use Rattle.descriptor_loop.specs.Items as items
 use Rattle.descriptor_loop.specs.Items.{Listed}
 use Rattle.descriptor_loop.specs.declared.Item.{Item}
-use Rattle.section.specs.Section.{commandLength, commandBytes, loopLength}
+use Rattle.section.specs.Section.{command_length, command_bytes, loop_length}
 use Rattle.table.specs.Bits.{pick, bits_of, field}
-use Rattle.theorems_reader.specs.Whole.{upidAt}
+use Rattle.theorems_reader.specs.Whole.{upid_at}
 use Rattle.theorems_writer.specs.Making.{SectionBytes}
 use Rattle.upid.specs.Upid.{number_of}
 use Rattle.upid.specs.declared.Part.{Part}
 use Rattle.upid.specs.declared.UpidRead.{UpidRead}
-use Rattle.theorems_functions.specs.Slices.{reportedAs}
+use Rattle.theorems_functions.specs.Slices.{reported_as}
 
 -- a view of lent bytes that start at `base` of the section is the n bytes from `at` on, which are there
 pub record Lies (s : List ℕ) (base at n : ℕ) (v : FlatView) : Type 0 where
@@ -39,15 +39,15 @@ taken lent v = take v.len (drop v.at lent)
 
 -- ---- the two parts of a section: the command's payload begins at byte 14, and the loop behind it and the two bytes of its length
 pub record SectionLies (s : List ℕ) (f : FlatSection) : Type 0 where
-  pub payload : Lies s 0 14 (commandLength s) f.payload
-  pub command : taken s f.payload ≡ commandBytes s
-  pub descriptors : Lies s 0 (16 + commandLength s) (loopLength s) f.descriptors
+  pub payload : Lies s 0 14 (command_length s) f.payload
+  pub command : taken s f.payload ≡ command_bytes s
+  pub descriptors : Lies s 0 (16 + command_length s) (loop_length s) f.descriptors
 
 -- ---- an item
 
 -- a UPID whose head stands at byte h
 pub record UpidLies (s : List ℕ) (h base : ℕ) (i : FlatItem) : Type 0 where
-  pub upid_type : i.segmentation.segmentation_upid_type ≡ pick (eqb (get_or s (h + 1) 0) 0) 0 (reportedAs (get_or s h 0))
+  pub upid_type : i.segmentation.segmentation_upid_type ≡ pick (eqb (get_or s (h + 1) 0) 0) 0 (reported_as (get_or s h 0))
   pub bytes : (i.segmentation.segmentation_upid_type ≡ 0 → ⊥) → (i.segmentation.segmentation_upid_type ≡ 10 → ⊥) → Lies s base (h + 2) (get_or s (h + 1) 0) i.bytes
 
 -- the text of refusal 24 in a payload that starts at byte p, by the refusal's values: its type, and where it lies in the lent bytes; the two bytes before it are its type and its length
@@ -64,7 +64,7 @@ pub record TextLies (s : List ℕ) (p base : ℕ) (values : List ℕ) : Type 0 w
 -- An item that starts at byte q of the section, by its number: 2 DTMF, 4 segmentation, 6 reserved, 7 refused. (0 is the end, 1 an avail, 3 a cancelled segmentation, 5 a time.)
 pub record ItemLies (s : List ℕ) (q base : ℕ) (f : FlatStep) : Type 0 where
   pub dtmf : f.item.kind ≡ 2 → Lies s base (q + 6 + 2) (get_or s (q + 6 + 1) 0 / 32) f.item.bytes
-  pub segmentation : f.item.kind ≡ 4 → UpidLies s (upidAt s (q + 6)) base f.item
+  pub segmentation : f.item.kind ≡ 4 → UpidLies s (upid_at s (q + 6)) base f.item
   -- the identifier's four bytes as a number
   pub reserved : f.item.kind ≡ 6 → Lies s base (q + 6) (get_or s (q + 1) 0 - 4) f.item.bytes × (f.identifier ≡ field (bits_of (take 4 (drop (q + 2) s))) 0 32)
   -- a refusal has its number, and what is read has none
@@ -103,31 +103,31 @@ pub data SteppedC (Steps : ℕ → FlatStep → Type 0) (end : ℕ) : ℕ → Li
       → SteppedC Steps end offset (record { offset = offset; step = step } ∷ xs)
 
 -- the number of an item's refusal, 0 where it has none
-abbrev pub itemRefusal : Item → ℕ
-itemRefusal Item.End = 0
-itemRefusal (Item.Refused r) = items.number_of r
-itemRefusal (Item.Is d) = 0
+abbrev pub item_refusal : Item → ℕ
+item_refusal Item.End = 0
+item_refusal (Item.Refused r) = items.number_of r
+item_refusal (Item.Is d) = 0
 
 -- and its values
-abbrev pub itemValues : Item → List ℕ
-itemValues Item.End = []
-itemValues (Item.Refused r) = items.values_of r
-itemValues (Item.Is d) = []
+abbrev pub item_values : Item → List ℕ
+item_values Item.End = []
+item_values (Item.Refused r) = items.values_of r
+item_values (Item.Is d) = []
 
 -- the item of the loop that it is: where it starts and ends, and its refusal
 pub record SameItem (x : FlatListed) (y : Listed) : Type 0 where
   pub starts : x.offset ≡ y.offset
   pub ends : x.step.next ≡ y.offset + y.used
-  pub refusal : x.step.refusal ≡ itemRefusal y.step.item
+  pub refusal : x.step.refusal ≡ item_refusal y.step.item
 
 -- ---- a UPID: the number of what it is read as, 0 where it is read
-abbrev pub upidRefusal : UpidRead → ℕ
-upidRefusal (UpidRead.Fine k) = 0
-upidRefusal (UpidRead.Refused r) = number_of r
+abbrev pub upid_refusal : UpidRead → ℕ
+upid_refusal (UpidRead.Fine k) = 0
+upid_refusal (UpidRead.Refused r) = number_of r
 
 -- the type of one that is read, which is reported, and an EIDR, which is held by value; 0 stands where there is nothing
 pub record UpidSays (upid_type : ℕ) (bytes : List ℕ) (u : FlatUpid) : Type 0 where
-  pub read : u.refusal ≡ 0 → u.upid_type ≡ pick (eqb (length bytes) 0) 0 (reportedAs upid_type)
+  pub read : u.refusal ≡ 0 → u.upid_type ≡ pick (eqb (length bytes) 0) 0 (reported_as upid_type)
   pub refused : (u.refusal ≡ 0 → ⊥) → u.upid_type ≡ 0
   pub held : u.upid_type ≡ 10 → u.eidr ≡ bytes
   pub plain : (u.upid_type ≡ 10 → ⊥) → u.eidr ≡ replicate 12 0
@@ -143,7 +143,7 @@ pub record SamePart (q : FlatPart) (p : Part) : Type 0 where
 pub record PartLies (s : List ℕ) (start : ℕ) (q : FlatPart) : Type 0 where
   pub behind : 2 ≤ start + q.start
   pub there : start + q.start + q.len ≤ length s
-  pub upid_type : q.upid_type ≡ reportedAs (get_or s (start + q.start - 2) 0)
+  pub upid_type : q.upid_type ≡ reported_as (get_or s (start + q.start - 2) 0)
   pub long : q.len ≡ get_or s (start + q.start - 1) 0
 
 -- ---- a write of the bytes b, answered in words
@@ -153,16 +153,16 @@ pub record PutsFlat (b target : List ℕ) (answer : FlatWritten) (later : List �
 
 -- ---- what was written of words: they are those of a header, of a command and of its components (`HeaderIs`, `CommandIs`), and b is a canonical section with these and the loop
 pub record WrittenOf (header command components lent loop b : List ℕ) : Type 0 where
-  pub own-header : SpliceInfoHeader
-  pub own-command : SpliceCommand
-  pub own-components : List InsertComponent
-  pub header_is : HeaderIs header own-header
-  pub command-is : CommandIs command components own-command own-components
-  pub section : SectionBytes own-header own-command (array own-components) lent loop b
+  pub own_header : SpliceInfoHeader
+  pub own_command : SpliceCommand
+  pub own_components : List InsertComponent
+  pub header_is : HeaderIs header own_header
+  pub command_is_lem : CommandIs command components own_command own_components
+  pub section : SectionBytes own_header own_command (array own_components) lent loop b
 
 -- and the words that are read of it: accepted, the header's and the command's words as they were handed in, but for where its private bytes lie, and the loop
 pub record ReadsAgain (header command loop b : List ℕ) (f : FlatSection) : Type 0 where
   pub accepted : f.refusal ≡ 0
-  pub words : same (headerWords f.header) header ≡ true
-  pub command-words : same (take 19 (commandWords f.command)) command ≡ true
+  pub words : same (header_words f.header) header ≡ true
+  pub command_words_lem : same (take 19 (command_words f.command)) command ≡ true
   pub loops : taken b f.descriptors ≡ loop

@@ -7,10 +7,10 @@ use Rattle.descriptor.specs.declared.segmentation.DescriptorDetail.{DescriptorDe
 use Rattle.descriptor_loop.specs.declared.Item.{Item}
 use Rattle.descriptor_loop.specs.declared.ItemRefusal.{ItemRefusal}
 use Rattle.descriptor_loop.specs.declared.reading.Reading.{Reading}
-use Rattle.section.specs.Section.{commandLength}
+use Rattle.section.specs.Section.{command_length}
 use Rattle.table.specs.Bits.{pick}
-use Rattle.theorems_reader.specs.Whole.{Exactly, upidAt}
-use Rattle.upid.specs.Cover.{All, Covered, Ascending, Owned, topPart}
+use Rattle.theorems_reader.specs.Whole.{Exactly, upid_at}
+use Rattle.upid.specs.Cover.{All, Covered, Ascending, Owned, top_part}
 use Rattle.upid.specs.declared.Part.{Part}
 use Rattle.upid.specs.declared.Refusal.{Refusal}
 
@@ -19,19 +19,19 @@ abbrev pub Slice : List ℕ → ℕ → ℕ → List ℕ → Type 0
 Slice s at n b = Exactly s at n (record { start = at; len = n; bytes = b })
 
 -- the type that is reported of one that is written: 5 as 6
-abbrev pub reportedAs : ℕ → ℕ
-reportedAs written = pick (eqb written 5) 6 written
+abbrev pub reported_as : ℕ → ℕ
+reported_as written = pick (eqb written 5) 6 written
 
 -- ---- a UPID whose head stands at byte h of the section, of which type k is reported and b is handed back; `eidr` stands beside it
 pub record UpidSlice (s : List ℕ) (h : ℕ) (eidr b : List ℕ) (k : ℕ) : Type 0 where
-  pub upid_type : k ≡ pick (eqb (get_or s (h + 1) 0) 0) 0 (reportedAs (get_or s h 0))
+  pub upid_type : k ≡ pick (eqb (get_or s (h + 1) 0) 0) 0 (reported_as (get_or s h 0))
   pub bytes : (k ≡ 0 → ⊥) → (k ≡ 10 → ⊥) → Slice s (h + 2) (get_or s (h + 1) 0) b
   pub held : k ≡ 10 → (get_or s h 0 ≡ 10) × (get_or s (h + 1) 0 ≡ 12) × Slice s (h + 2) 12 eidr
 
 -- (a cancelled one has its cancel bit set)
 abbrev pub DetailSlice : List ℕ → ℕ → List ℕ → List ℕ → DescriptorDetail → Type 0
 DetailSlice s p eidr b DescriptorDetail.Cancel = get_or s (p + 4) 0 / 128 % 2 ≡ 1
-DetailSlice s p eidr b (DescriptorDetail.Active i) = UpidSlice s (upidAt s p) eidr b i.segmentation_upid.upid_type
+DetailSlice s p eidr b (DescriptorDetail.Active i) = UpidSlice s (upid_at s p) eidr b i.segmentation_upid.upid_type
 
 -- the text of refusal 24 in a payload that starts at byte p: the two bytes before it are its type and its length
 pub record TextSlice (s : List ℕ) (p k : ℕ) (b : List ℕ) : Type 0 where
@@ -61,13 +61,13 @@ ItemSlice s q r b (Item.Is (Descriptor.Reserved tag v)) = Slice s (q + 6) (get_o
 -- ---- a part of a MID whose bytes start at `start` of the section: it lies behind its own head, whose two bytes are its type and its length
 pub record PartSlice (s : List ℕ) (start : ℕ) (p : Part) (b : List ℕ) : Type 0 where
   pub behind : 2 ≤ start + p.start
-  pub upid_type : p.upid_type ≡ reportedAs (get_or s (start + p.start - 2) 0)
+  pub upid_type : p.upid_type ≡ reported_as (get_or s (start + p.start - 2) 0)
   pub whole : Slice s (start + p.start) (get_or s (start + p.start - 1) 0) b
 
 -- The parts of a MID with the bytes b: they cover it once, and each MID in it, and can be cut in no other way; there are no others, and they go by the bytes
 pub record Parted (b : List ℕ) (ps : List Part) : Type 0 where
-  pub covered : All (λ (m : Part). m.upid_type ≡ 13 → Covered b ps m) (topPart b ∷ ps)
-  pub owned : All (Owned (topPart b ∷ ps)) ps
+  pub covered : All (λ (m : Part). m.upid_type ≡ 13 → Covered b ps m) (top_part b ∷ ps)
+  pub owned : All (Owned (top_part b ∷ ps)) ps
   pub ordered : Ascending ps
 
 -- ---- the private bytes of a command: from 18 to its end
@@ -76,4 +76,4 @@ PrivateSlice s b SpliceCommand.SpliceNull = b ≡ []
 PrivateSlice s b (SpliceCommand.SpliceInsert i) = b ≡ []
 PrivateSlice s b (SpliceCommand.TimeSignal t) = b ≡ []
 PrivateSlice s b SpliceCommand.BandwidthReservation = b ≡ []
-PrivateSlice s b (SpliceCommand.PrivateCommand p) = Slice s 18 (commandLength s - 4) b
+PrivateSlice s b (SpliceCommand.PrivateCommand p) = Slice s 18 (command_length s - 4) b

@@ -7,11 +7,11 @@ use mathlib.Core.List.{List}
 use mathlib.Core.Path.{◌≡◌, refl, ap, sym, ◌∙◌}
 use lib.Dec.{eqb}
 use lib.ListN.{length}
-use Rattle.command.specs.Command.{private, read, empty, byType, commandOf, number_of}
+use Rattle.command.specs.Command.{private, read, empty, by_type, command_of, number_of}
 use Rattle.command.specs.Insert.{insert}
 use Rattle.command.specs.declared.CommandRead.{CommandRead}
 use Rattle.command.specs.declared.SpliceCommand.{SpliceCommand}
-use Rattle.splice_time.specs.Time.{spliceTime}
+use Rattle.splice_time.specs.Time.{splice_time}
 use Rattle.table.proofs.Lists.{zero_one}
 use Rattle.table.specs.Bits.{pick, bits_of}
 use Rattle.table.specs.Table.{Answer, got, short, parse}
@@ -20,8 +20,8 @@ abbrev Unknown : CommandRead → Bool
 Unknown r = eqb (number_of r) 10
 
 -- the reader of a known type refuses its payload by 11 only
-empty-known : (c : SpliceCommand) (payload : List ℕ) → Unknown (empty c payload) ≡ false
-empty-known c payload = go (eqb (length payload) 0)
+empty_known : (c : SpliceCommand) (payload : List ℕ) → Unknown (empty c payload) ≡ false
+empty_known c payload = go (eqb (length payload) 0)
   where
     go : (none : Bool) → Unknown (pick none (CommandRead.Is c) CommandRead.Malformed) ≡ false
     go true = refl
@@ -40,21 +40,21 @@ chain false false false true b₈ r₀ r₅ r₆ r₇ r₈ e₀ e₅ e₆ e₇ e
 chain false false false false true r₀ r₅ r₆ r₇ r₈ e₀ e₅ e₆ e₇ e₈ = e₈
 chain false false false false false r₀ r₅ r₆ r₇ r₈ e₀ e₅ e₆ e₇ e₈ = refl
 
-pub unknown-is : (command-type : ℕ) (payload : List ℕ) → eqb (number_of (commandOf command-type payload)) 10 ≡ byType command-type false false false false false true
-unfolding commandOf
-unknown-is command-type payload =
-    chain (eqb command-type 0x00) (eqb command-type 0x05) (eqb command-type 0x06) (eqb command-type 0x07) (eqb command-type 0xff) _ _ _ _ _ (empty-known SpliceCommand.SpliceNull payload)
-    (read_known (λ x. SpliceCommand.SpliceInsert x.value) (parse insert (bits_of payload) 0)) (read_known SpliceCommand.TimeSignal (parse spliceTime (bits_of payload) 0))
-    (empty-known SpliceCommand.BandwidthReservation payload) (read_known SpliceCommand.PrivateCommand (parse private (bits_of payload) 0))
+pub unknown_is : (command_type : ℕ) (payload : List ℕ) → eqb (number_of (command_of command_type payload)) 10 ≡ by_type command_type false false false false false true
+unfolding command_of
+unknown_is command_type payload =
+    chain (eqb command_type 0x00) (eqb command_type 0x05) (eqb command_type 0x06) (eqb command_type 0x07) (eqb command_type 0xff) _ _ _ _ _ (empty_known SpliceCommand.SpliceNull payload)
+    (read_known (λ x. SpliceCommand.SpliceInsert x.value) (parse insert (bits_of payload) 0)) (read_known SpliceCommand.TimeSignal (parse splice_time (bits_of payload) 0))
+    (empty_known SpliceCommand.BandwidthReservation payload) (read_known SpliceCommand.PrivateCommand (parse private (bits_of payload) 0))
 
 -- and 10 is the number of that answer only
-ten-is : (r : CommandRead) → Unknown r ≡ true → r ≡ CommandRead.UnknownType
-ten-is (CommandRead.Is c) e = zero_one cc
-ten-is CommandRead.UnknownType e = refl
-ten-is CommandRead.Malformed e = zero_one cc
+ten_is : (r : CommandRead) → Unknown r ≡ true → r ≡ CommandRead.UnknownType
+ten_is (CommandRead.Is c) e = zero_one cc
+ten_is CommandRead.UnknownType e = refl
+ten_is CommandRead.Malformed e = zero_one cc
 
-pub unknown-if : (command-type : ℕ) (payload : List ℕ) → byType command-type false false false false false true ≡ true → commandOf command-type payload ≡ CommandRead.UnknownType
-unknown-if command-type payload e = ten-is (commandOf command-type payload) (unknown-is command-type payload ∙ e)
+pub unknown_if : (command_type : ℕ) (payload : List ℕ) → by_type command_type false false false false false true ≡ true → command_of command_type payload ≡ CommandRead.UnknownType
+unknown_if command_type payload e = ten_is (command_of command_type payload) (unknown_is command_type payload ∙ e)
 
-pub unknown-only-if : (command-type : ℕ) (payload : List ℕ) → commandOf command-type payload ≡ CommandRead.UnknownType → byType command-type false false false false false true ≡ true
-unknown-only-if command-type payload e = sym (unknown-is command-type payload) ∙ ap Unknown e
+pub unknown_only_if : (command_type : ℕ) (payload : List ℕ) → command_of command_type payload ≡ CommandRead.UnknownType → by_type command_type false false false false false true ≡ true
+unknown_only_if command_type payload e = sym (unknown_is command_type payload) ∙ ap Unknown e

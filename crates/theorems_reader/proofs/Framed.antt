@@ -8,42 +8,42 @@ use mathlib.Core.Path.{◌≡◌, refl, ap, sym, ◌∙◌}
 use native.Mathlib.Omega.{arith}
 use lib.Dec.{eqb}
 use lib.ListN.{length, drop}
-use Rattle.command.specs.Command.{private, read, commandOf}
+use Rattle.command.specs.Command.{private, read, command_of}
 use Rattle.command.specs.Insert.{insert}
 use Rattle.command.specs.declared.CommandRead.{CommandRead}
 use Rattle.command.specs.declared.Private.{Private}
 use Rattle.command.specs.declared.SpliceCommand.{SpliceCommand}
-use Rattle.header.specs.Header.{headerOf}
-use Rattle.splice_time.specs.Time.{spliceTime}
+use Rattle.header.specs.Header.{header_of}
+use Rattle.splice_time.specs.Time.{splice_time}
 use Rattle.header.specs.declared.header.HeaderRead.{HeaderRead}
-use Rattle.section.proofs.Parts.{parts-of}
-use Rattle.section.specs.Section.{commandLength, commandType, commandBytes, loopLength, loopPlace, moved, movedRead, sectionOf}
+use Rattle.section.proofs.Parts.{parts_of_lem}
+use Rattle.section.specs.Section.{command_length, command_type, command_bytes, loop_length, loop_place, moved, moved_read, section_of}
 use Rattle.section.specs.declared.Section.{Section}
 use Rattle.section.specs.declared.SectionRead.{SectionRead}
-use Rattle.table.proofs.Steps.{reads-number, reads-part, takes-remaining}
+use Rattle.table.proofs.Steps.{reads_number, reads_part, takes_remaining}
 use Rattle.table.specs.Bits.{pick, bits_of, field}
 use Rattle.table.specs.Table.{Answer, got, short, parse}
 
 pub record Laid (s : List ℕ) (x : Section) : Type 0 where
   pub short : length s ≤ 4096
-  pub fits : 14 + commandLength s + 2 + loopLength s + 4 ≤ length s
-  pub place : x.descriptors ≡ loopPlace s
+  pub fits : 14 + command_length s + 2 + loop_length s + 4 ≤ length s
+  pub place : x.descriptors ≡ loop_place s
   pub read : SpliceCommand
-  pub from : commandOf (commandType s) (commandBytes s) ≡ CommandRead.Is read
+  pub from : command_of (command_type s) (command_bytes s) ≡ CommandRead.Is read
   pub command : x.command ≡ moved 14 read
 
-pub laid : (s : List ℕ) (x : Section) → sectionOf s ≡ SectionRead.Is x → Laid s x
+pub laid : (s : List ℕ) (x : Section) → section_of s ≡ SectionRead.Is x → Laid s x
 laid s x e =
-    let p = parts-of s x e in
+    let p = parts_of_lem s x e in
     record { short = p.short; fits = omega (arith, p.fits); place = p.loop; read = p.own; from = p.command; command = p.moves }
 
 -- what it says: its header, its command as a section has it, and where the loop and the command lie
-pub says : (s : List ℕ) (x : Section) → sectionOf s ≡ SectionRead.Is x
-    → (headerOf (drop 3 s) ≡ HeaderRead.Header x.header) × (movedRead (commandOf (commandType s) (commandBytes s)) ≡ CommandRead.Is x.command) × (x.descriptors ≡ loopPlace s) × (x.payload ≡ record { at = 14; len = commandLength s })
-unfolding movedRead
+pub says : (s : List ℕ) (x : Section) → section_of s ≡ SectionRead.Is x
+    → (header_of (drop 3 s) ≡ HeaderRead.Header x.header) × (moved_read (command_of (command_type s) (command_bytes s)) ≡ CommandRead.Is x.command) × (x.descriptors ≡ loop_place s) × (x.payload ≡ record { at = 14; len = command_length s })
+unfolding moved_read
 says s x e =
-    let p = parts-of s x e in
-    (p.header, ap movedRead p.command ∙ ap CommandRead.Is (sym p.moves), p.loop, p.payload)
+    let p = parts_of_lem s x e in
+    (p.header, ap moved_read p.command ∙ ap CommandRead.Is (sym p.moves), p.loop, p.payload)
 
 -- ---- the bytes of a private command
 
@@ -68,20 +68,20 @@ module _ (s : List ℕ) where
   there : (p : Private) (m : ℕ) → parse private (bits_of s) 0 ≡ got p m → p.private_bytes.at + p.private_bytes.len ≤ length s
   unfolding private
   there p m e =
-      let e₁ = (reads-number s 0 32 _ _ p m e).1 in
-      let e₂ = sym (takes-remaining s 32 _ _) ∙ e₁ in
-      let i = reads-part s 32 _ _ _ p m e₂ in
+      let e₁ = (reads_number s 0 32 _ _ p m e).1 in
+      let e₂ = sym (takes_remaining s 32 _ _) ∙ e₁ in
+      let i = reads_part s 32 _ _ _ p m e₂ in
       let z : p ≡ record { identifier = field (bits_of s) 0 32; private_bytes = record { at = 4; len = (length s * 8 - 32) / 8 } } = cc i.1 in
       rw z (omega (arith, i.0))
 
-  all-inside : (k : ℕ) → Inside s (commandOf k s)
-  unfolding commandOf
-  all-inside k =
+  all_inside : (k : ℕ) → Inside s (command_of k s)
+  unfolding command_of
+  all_inside k =
       picked (eqb k 0x00) _ _ (picked (eqb (length s) 0) _ _ tt tt)
       (picked (eqb k 0x05) _ _ (reading (λ x. SpliceCommand.SpliceInsert x.value) (parse insert (bits_of s) 0) (λ x m e. tt))
-      (picked (eqb k 0x06) _ _ (reading SpliceCommand.TimeSignal (parse spliceTime (bits_of s) 0) (λ x m e. tt))
+      (picked (eqb k 0x06) _ _ (reading SpliceCommand.TimeSignal (parse splice_time (bits_of s) 0) (λ x m e. tt))
       (picked (eqb k 0x07) _ _ (picked (eqb (length s) 0) _ _ tt tt)
       (picked (eqb k 0xff) _ _ (reading SpliceCommand.PrivateCommand (parse private (bits_of s) 0) there) tt))))
 
-  pub private-in : (k : ℕ) (p : Private) → commandOf k s ≡ CommandRead.Is (SpliceCommand.PrivateCommand p) → p.private_bytes.at + p.private_bytes.len ≤ length s
-  private-in k p e = rw e at (all-inside k)
+  pub private_in : (k : ℕ) (p : Private) → command_of k s ≡ CommandRead.Is (SpliceCommand.PrivateCommand p) → p.private_bytes.at + p.private_bytes.len ≤ length s
+  private_in k p e = rw e at (all_inside k)

@@ -12,7 +12,7 @@ use borrow.Author.Tests.{eqb-true, ltb-false}
 use Rattle.table.proofs.Lists.{zero_one}
 use Rattle.table.specs.declared.View.{View}
 use Rattle.upid.specs.Text.{text_of}
-use Rattle.upid.specs.Upid.{checkOf, read_of, walk_of, plain_of, ◌then◌, length_of, isText, reportedOf}
+use Rattle.upid.specs.Upid.{check_of, read_of, walk_of, plain_of, ◌then◌, length_of, is_text, reported_of}
 use Rattle.upid.specs.declared.Refusal.{Refusal}
 use Rattle.upid.specs.declared.Refusal.TheVariants.{InputTooLong, NotEnoughData, UpidLengthTypeMismatch, InvalidUpidContent, InvalidUpidLength}
 use Rattle.upid.specs.declared.UpidRead.{UpidRead}
@@ -26,13 +26,13 @@ pub record Headed (bytes : List ℕ) (start q : ℕ) (v : View) : Type 0 where
   pub inside : v.at + v.len ≤ start + length bytes
 
 -- a payload of its own is refused as a whole
-plain-text : (k start : ℕ) (bytes : List ℕ) (q : ℕ) (v : View) → plain_of k start bytes ≡ Refused (InvalidUpidContent q v) → (q ≡ k) × (v ≡ record { at = start; len = length bytes })
+plain_text : (k start : ℕ) (bytes : List ℕ) (q : ℕ) (v : View) → plain_of k start bytes ≡ Refused (InvalidUpidContent q v) → (q ≡ k) × (v ≡ record { at = start; len = length bytes })
 unfolding plain_of
-plain-text k start bytes q v e = go (eqb k 0) (eqb (length_of k) 0) (eqb (length bytes) (length_of k)) (isText k && not (text_of bytes)) e
+plain_text k start bytes q v e = go (eqb k 0) (eqb (length_of k) 0) (eqb (length bytes) (length_of k)) (is_text k && not (text_of bytes)) e
   where
     go : (a b c d : Bool)
-        → pick a (Refused UpidLengthTypeMismatch) (pick b (Fine (reportedOf k)) (pick (not c) (Refused (InvalidUpidLength k (length_of k) (length bytes)))
-        (pick d (Refused (InvalidUpidContent k (record { at = start; len = length bytes }))) (Fine (reportedOf k))))) ≡ Refused (InvalidUpidContent q v)
+        → pick a (Refused UpidLengthTypeMismatch) (pick b (Fine (reported_of k)) (pick (not c) (Refused (InvalidUpidLength k (length_of k) (length bytes)))
+        (pick d (Refused (InvalidUpidContent k (record { at = start; len = length bytes }))) (Fine (reported_of k))))) ≡ Refused (InvalidUpidContent q v)
         → (q ≡ k) × (v ≡ record { at = start; len = length bytes })
     go true b c d h = zero_one cc
     go false true c d h = zero_one cc
@@ -44,8 +44,8 @@ module _ (start k l : ℕ) (rest : List ℕ) (fits : l ≤ length rest) (q : ℕ
   abbrev all : List ℕ
   all = k ∷ (l ∷ rest)
 
-  at-index : (i j : ℕ) → i ≡ suc (suc j) → get_or all i 0 ≡ get_or rest j 0
-  at-index i j e = ap (λ (n : ℕ). get_or all n 0) e
+  at_index : (i j : ℕ) → i ≡ suc (suc j) → get_or all i 0 ≡ get_or rest j 0
+  at_index i j e = ap (λ (n : ℕ). get_or all n 0) e
 
   -- in the first part
   inner : Headed (take l rest) (start + 2) q v → Headed all start q v
@@ -55,10 +55,10 @@ module _ (start k l : ℕ) (rest : List ℕ) (fits : l ≤ length rest) (q : ℕ
         behind = omega (arith, h.behind);
         upid_type =
             h.upid_type ∙ get_or-take l rest (v.at - (start + 2) - 2) 0 (omega (arith, h.behind, h.inside, n))
-            ∙ sym (at-index (v.at - start - 2) (v.at - (start + 2) - 2) (omega (arith, h.behind)));
+            ∙ sym (at_index (v.at - start - 2) (v.at - (start + 2) - 2) (omega (arith, h.behind)));
         len =
             h.len ∙ get_or-take l rest (v.at - (start + 2) - 1) 0 (omega (arith, h.behind, h.inside, n))
-            ∙ sym (at-index (v.at - start - 1) (v.at - (start + 2) - 1) (omega (arith, h.behind)));
+            ∙ sym (at_index (v.at - start - 1) (v.at - (start + 2) - 1) (omega (arith, h.behind)));
         inside = omega (arith, h.inside, n);
       }
 
@@ -70,10 +70,10 @@ module _ (start k l : ℕ) (rest : List ℕ) (fits : l ≤ length rest) (q : ℕ
         behind = omega (arith, h.behind);
         upid_type =
             h.upid_type ∙ get_or-drop l rest (v.at - (start + (2 + l)) - 2) 0
-            ∙ sym (at-index (v.at - start - 2) (l + (v.at - (start + (2 + l)) - 2)) (omega (arith, h.behind)));
+            ∙ sym (at_index (v.at - start - 2) (l + (v.at - (start + (2 + l)) - 2)) (omega (arith, h.behind)));
         len =
             h.len ∙ get_or-drop l rest (v.at - (start + (2 + l)) - 1) 0
-            ∙ sym (at-index (v.at - start - 1) (l + (v.at - (start + (2 + l)) - 1)) (omega (arith, h.behind)));
+            ∙ sym (at_index (v.at - start - 1) (l + (v.at - (start + (2 + l)) - 1)) (omega (arith, h.behind)));
         inside = omega (arith, h.inside, n);
       }
 
@@ -81,32 +81,32 @@ module _ (start k l : ℕ) (rest : List ℕ) (fits : l ≤ length rest) (q : ℕ
   first : (q ≡ k) × (v ≡ record { at = start + 2; len = length (take l rest) }) → Headed all start q v
   first h =
       let n : length (take l rest) ≡ l = omega (arith, length-take l rest) in
-      let zero-at : start + 2 - start - 2 ≡ 0 = omega arith in
+      let zero_at : start + 2 - start - 2 ≡ 0 = omega arith in
       let one_at : start + 2 - start - 1 ≡ 1 = omega arith in
       rw h.1 (record {
         behind = omega arith;
-        upid_type = h.0 ∙ sym (ap (λ (i : ℕ). get_or all i 0) zero-at);
+        upid_type = h.0 ∙ sym (ap (λ (i : ℕ). get_or all i 0) zero_at);
         len = n ∙ sym (ap (λ (i : ℕ). get_or all i 0) one_at);
         inside = omega (arith, n);
       })
 
-then-refused : {A : Type 0} (a b : UpidRead) (r : Refusal) → a then b ≡ Refused r → (a ≡ Refused r → A) → (b ≡ Refused r → A) → A
+then_refused : {A : Type 0} (a b : UpidRead) (r : Refusal) → a then b ≡ Refused r → (a ≡ Refused r → A) → (b ≡ Refused r → A) → A
 unfolding ◌then◌
-then-refused (Fine k) b r e f g = g e
-then-refused (Refused x) b r e f g = f e
+then_refused (Fine k) b r e f g = g e
+then_refused (Refused x) b r e f g = f e
 
-walk-text : (n start : ℕ) (bytes : List ℕ) (q : ℕ) (v : View) → walk_of n start bytes ≡ Refused (InvalidUpidContent q v) → Headed bytes start q v
+walk_text : (n start : ℕ) (bytes : List ℕ) (q : ℕ) (v : View) → walk_of n start bytes ≡ Refused (InvalidUpidContent q v) → Headed bytes start q v
 unfolding walk_of
-walk-text zero start bytes q v e = zero_one cc
-walk-text (suc n) start [] q v e = zero_one cc
-walk-text (suc n) start (k ∷ []) q v e = zero_one cc
-walk-text (suc n) start (k ∷ (l ∷ rest)) q v e =
-    go (ltb (length rest) l) refl (walk-text n (start + 2) (take l rest) q v) (walk-text n (start + (2 + l)) (drop l rest) q v) e
+walk_text zero start bytes q v e = zero_one cc
+walk_text (suc n) start [] q v e = zero_one cc
+walk_text (suc n) start (k ∷ []) q v e = zero_one cc
+walk_text (suc n) start (k ∷ (l ∷ rest)) q v e =
+    go (ltb (length rest) l) refl (walk_text n (start + 2) (take l rest) q v) (walk_text n (start + (2 + l)) (drop l rest) q v) e
   where
     kinds : (t : Bool) → l ≤ length rest → (walk_of n (start + 2) (take l rest) ≡ Refused (InvalidUpidContent q v) → Headed (take l rest) (start + 2) q v)
         → pick t (walk_of n (start + 2) (take l rest)) (plain_of k (start + 2) (take l rest)) ≡ Refused (InvalidUpidContent q v) → Headed (k ∷ (l ∷ rest)) start q v
     kinds true fits f h = inner start k l rest fits q v (f h)
-    kinds false fits f h = first start k l rest fits q v (plain-text k (start + 2) (take l rest) q v h)
+    kinds false fits f h = first start k l rest fits q v (plain_text k (start + 2) (take l rest) q v h)
 
     go : (t : Bool) → ltb (length rest) l ≡ t → (walk_of n (start + 2) (take l rest) ≡ Refused (InvalidUpidContent q v) → Headed (take l rest) (start + 2) q v)
         → (walk_of n (start + (2 + l)) (drop l rest) ≡ Refused (InvalidUpidContent q v) → Headed (drop l rest) (start + (2 + l)) q v)
@@ -116,19 +116,19 @@ walk-text (suc n) start (k ∷ (l ∷ rest)) q v e =
     go true t f g h = zero_one cc
     go false t f g h =
         let fits : l ≤ length rest = ltb-false _ _ t in
-        then-refused _ _ _ h (kinds (eqb k 13) fits f) (λ z. after start k l rest fits q v (g z))
+        then_refused _ _ _ h (kinds (eqb k 13) fits f) (λ z. after start k l rest fits q v (g z))
 
 -- of a UPID with its own head, two bytes that stand before its bytes
-pub text-headed : (k : ℕ) (bytes : List ℕ) (q : ℕ) (v : View) → checkOf k bytes ≡ Refused (InvalidUpidContent q v) → Headed (k ∷ (length bytes ∷ bytes)) 0 q (record { at = 2 + v.at; len = v.len })
-unfolding checkOf read_of
-text-headed k bytes q v e = go (ltb 255 (length bytes)) (eqb (length bytes) 0) (eqb k 13) e
+pub text_headed : (k : ℕ) (bytes : List ℕ) (q : ℕ) (v : View) → check_of k bytes ≡ Refused (InvalidUpidContent q v) → Headed (k ∷ (length bytes ∷ bytes)) 0 q (record { at = 2 + v.at; len = v.len })
+unfolding check_of read_of
+text_headed k bytes q v e = go (ltb 255 (length bytes)) (eqb (length bytes) 0) (eqb k 13) e
   where
     go : (t u w : Bool) → pick t (Refused InputTooLong) (pick u (Fine 0) (pick w (walk_of (length bytes) 0 bytes) (plain_of k 0 bytes))) ≡ Refused (InvalidUpidContent q v)
         → Headed (k ∷ (length bytes ∷ bytes)) 0 q (record { at = 2 + v.at; len = v.len })
     go true u w h = zero_one cc
     go false true w h = zero_one cc
     go false false true h =
-        let i = walk-text (length bytes) 0 bytes q v h in
+        let i = walk_text (length bytes) 0 bytes q v h in
         record {
           behind = omega (arith, i.behind);
           upid_type = i.upid_type ∙ sym (ap (λ (j : ℕ). get_or (k ∷ (length bytes ∷ bytes)) j 0) (let z : 2 + v.at - 0 - 2 ≡ suc (suc (v.at - 0 - 2)) = omega (arith, i.behind) in z));
@@ -136,7 +136,7 @@ text-headed k bytes q v e = go (ltb 255 (length bytes)) (eqb (length bytes) 0) (
           inside = omega (arith, i.inside);
         }
     go false false false h =
-        let i = plain-text k 0 bytes q v h in
+        let i = plain_text k 0 bytes q v h in
         let a : v.at ≡ 0 = ap (λ (v : View). v.at) i.1 in
         let l : v.len ≡ length bytes = ap (λ (v : View). v.len) i.1 in
         record {

@@ -15,26 +15,26 @@ use Rattle.descriptor_loop.specs.declared.ItemRefusal.{ItemRefusal}
 use Rattle.table.specs.Lent.{viewed}
 use Rattle.table.specs.declared.View.{View}
 use Rattle.upid.specs.Cover.{All}
-use Rattle.upid.specs.Upid.{partView}
+use Rattle.upid.specs.Upid.{part_view}
 use Rattle.upid.specs.declared.Part.{Part}
 use Rattle.upid.specs.declared.Refusal.{Refusal}
-use Rattle.theorems_reader.specs.Identifiers.{Identifier, inSection, inLent, eidrOf, partsRead}
+use Rattle.theorems_reader.specs.Identifiers.{Identifier, in_section, in_lent, eidr_of, parts_read}
 
 -- a UPID: its bytes unless it is None or an EIDR, an EIDR by value, and every part of a MID
 pub record ListsUpid (ids : List Identifier) (base : ℕ) (loop : List ℕ) (y : Listed) (u : SegmentationUpid) : Type 0 where
-  pub view : (u.upid_type ≡ 0 → ⊥) → (u.upid_type ≡ 10 → ⊥) → Memᴰ (inLent base loop u.bytes) ids
-  pub eidr : u.upid_type ≡ 10 → Memᴰ (eidrOf base loop y) ids
-  pub parts : All (λ (p : Part). Memᴰ (inLent (base + u.bytes.at) (viewed loop u.bytes) (partView p)) ids) (partsRead u.upid_type (viewed loop u.bytes))
+  pub view : (u.upid_type ≡ 0 → ⊥) → (u.upid_type ≡ 10 → ⊥) → Memᴰ (in_lent base loop u.bytes) ids
+  pub eidr : u.upid_type ≡ 10 → Memᴰ (eidr_of base loop y) ids
+  pub parts : All (λ (p : Part). Memᴰ (in_lent (base + u.bytes.at) (viewed loop u.bytes) (part_view p)) ids) (parts_read u.upid_type (viewed loop u.bytes))
 
 -- an item that is read: DTMF characters, a UPID, a reserved descriptor's bytes and identifier, the text of refusal 24
 pub record ListsItem (ids : List Identifier) (base : ℕ) (loop : List ℕ) (y : Listed) : Type 0 where
-  pub dtmf : (d : DTMFDescriptor) → y.step.item ≡ Item.Is (Descriptor.Dtmf d) → Memᴰ (inLent base loop d.dtmf_chars) ids
+  pub dtmf : (d : DTMFDescriptor) → y.step.item ≡ Item.Is (Descriptor.Dtmf d) → Memᴰ (in_lent base loop d.dtmf_chars) ids
   pub upid : (d : SegmentationDescriptor) (i : SegmentationDetail) → y.step.item ≡ Item.Is (Descriptor.Segmentation d) → d.descriptor_detail ≡ DescriptorDetail.Active i
       → ListsUpid ids base loop y i.segmentation_upid
   pub reserved : (tag : ℕ) (v : View) → y.step.item ≡ Item.Is (Descriptor.Reserved tag v)
-      → Memᴰ (inLent base loop v) ids × Memᴰ (record { start = base + (y.offset + 2); len = 4; bytes = y.step.identifier }) ids
-  pub text : (k : ℕ) (v : View) → y.step.item ≡ Item.Refused (ItemRefusal.Other (Refusal.InvalidUpidContent k v)) → Memᴰ (inLent base loop v) ids
+      → Memᴰ (in_lent base loop v) ids × Memᴰ (record { start = base + (y.offset + 2); len = 4; bytes = y.step.identifier }) ids
+  pub text : (k : ℕ) (v : View) → y.step.item ≡ Item.Refused (ItemRefusal.Other (Refusal.InvalidUpidContent k v)) → Memᴰ (in_lent base loop v) ids
 
 -- the private bytes of a command
 abbrev pub ListsCommand : List Identifier → List ℕ → SpliceCommand → Type 0
-ListsCommand ids s c = (p : Private) → c ≡ SpliceCommand.PrivateCommand p → Memᴰ (inSection s p.private_bytes) ids
+ListsCommand ids s c = (p : Private) → c ≡ SpliceCommand.PrivateCommand p → Memᴰ (in_section s p.private_bytes) ids

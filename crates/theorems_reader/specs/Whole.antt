@@ -3,7 +3,7 @@
 use Rattle.std.specs.Prelude.{ℕ, ◌+◌, ◌-◌, ◌/◌, ◌%◌, ◌≤◌, List, ◌≡◌, eqb, length, take, drop, get_or}
 use Rattle.command.specs.declared.Private.{Private}
 use Rattle.command.specs.declared.SpliceCommand.{SpliceCommand}
-use Rattle.descriptor.specs.Segmentation.{fieldsBefore}
+use Rattle.descriptor.specs.Segmentation.{fields_before}
 use Rattle.descriptor.specs.declared.Descriptor.{Descriptor}
 use Rattle.descriptor.specs.declared.plain.DTMFDescriptor.{DTMFDescriptor}
 use Rattle.descriptor.specs.declared.segmentation.DescriptorDetail.{DescriptorDetail}
@@ -13,12 +13,12 @@ use Rattle.descriptor.specs.declared.segmentation.SegmentationUpid.{Segmentation
 use Rattle.descriptor_loop.specs.declared.Item.{Item}
 use Rattle.descriptor_loop.specs.declared.ItemRefusal.{ItemRefusal}
 use Rattle.descriptor_loop.specs.declared.reading.Reading.{Reading}
-use Rattle.section.specs.Section.{commandLength, loopIn}
+use Rattle.section.specs.Section.{command_length, loop_in}
 use Rattle.section.specs.declared.Section.{Section}
 use Rattle.table.specs.Bits.{pick}
 use Rattle.table.specs.declared.View.{View}
 use Rattle.upid.specs.declared.Refusal.{Refusal}
-use Rattle.theorems_reader.specs.Identifiers.{Identifier, inSection, inLent, Unsplit}
+use Rattle.theorems_reader.specs.Identifiers.{Identifier, in_section, in_lent, Unsplit}
 
 -- the identifier is exactly the n bytes of the section from `at` on, which are there
 pub record Exactly (s : List ℕ) (at n : ℕ) (i : Identifier) : Type 0 where
@@ -31,16 +31,16 @@ pub record WholeUpid (s : List ℕ) (h base : ℕ) (loop beside : List ℕ) (u :
   pub upid_type : u.upid_type ≡ pick (eqb (get_or s (h + 1) 0) 0) 0 (pick (eqb (get_or s h 0) 5) 6 (get_or s h 0))
   -- unless it is None or an EIDR it has a view, of as many bytes as are announced, no fewer and no more. (The types are named here: a reader's own list of
   -- those without a view could be longer.)
-  pub bytes : (u.upid_type ≡ 0 → ⊥) → (u.upid_type ≡ 10 → ⊥) → Exactly s (h + 2) (get_or s (h + 1) 0) (inLent base loop u.bytes)
+  pub bytes : (u.upid_type ≡ 0 → ⊥) → (u.upid_type ≡ 10 → ⊥) → Exactly s (h + 2) (get_or s (h + 1) 0) (in_lent base loop u.bytes)
   -- "The EIDR identifier of 12 bytes is held by value": written as type 10 with length 12
   pub eidr : u.upid_type ≡ 10 → (get_or s h 0 ≡ 10) × (get_or s (h + 1) 0 ≡ 12) × Exactly s (h + 2) 12 (record { start = h + 2; len = 12; bytes = beside })
   -- a MID is read as its parts
-  pub mid : u.upid_type ≡ 13 → Unsplit s (inLent base loop u.bytes)
+  pub mid : u.upid_type ≡ 13 → Unsplit s (in_lent base loop u.bytes)
 
 -- where it stands in a payload that starts at byte p of the section, by the section's own bytes: behind "event id 32, cancel 1, reserved 7" and the byte of flags;
 -- "if not program: count 8, each tag 8, reserved 7, offset 33"; "duration 40 if flagged"
-abbrev pub upidAt : List ℕ → ℕ → ℕ
-upidAt s p = p + (6 + fieldsBefore (get_or s (p + 5) 0) (get_or s (p + 6) 0))
+abbrev pub upid_at : List ℕ → ℕ → ℕ
+upid_at s p = p + (6 + fields_before (get_or s (p + 5) 0) (get_or s (p + 6) 0))
 
 -- ---- the text of refusal 24, of a UPID or of a part of a MID: the two bytes before it are its type and its length
 pub record WholeText (s : List ℕ) (p k : ℕ) (i : Identifier) : Type 0 where
@@ -52,24 +52,24 @@ pub record WholeText (s : List ℕ) (p k : ℕ) (i : Identifier) : Type 0 where
 pub record WholeItem (s : List ℕ) (base : ℕ) (loop : List ℕ) (offset : ℕ) (r : Reading) : Type 0 where
   -- "1 DTMF: preroll 8, count 3, reserved 5, count bytes"
   pub dtmf : (d : DTMFDescriptor) → r.step.item ≡ Item.Is (Descriptor.Dtmf d)
-      → Exactly s (base + offset + 6 + 2) (get_or s (base + offset + 6 + 1) 0 / 32) (inLent base loop d.dtmf_chars)
+      → Exactly s (base + offset + 6 + 2) (get_or s (base + offset + 6 + 1) 0 / 32) (in_lent base loop d.dtmf_chars)
   pub upid : (d : SegmentationDescriptor) (i : SegmentationDetail) → r.step.item ≡ Item.Is (Descriptor.Segmentation d) → d.descriptor_detail ≡ DescriptorDetail.Active i
-      → WholeUpid s (upidAt s (base + offset + 6)) base loop r.beside.eidr i.segmentation_upid
+      → WholeUpid s (upid_at s (base + offset + 6)) base loop r.beside.eidr i.segmentation_upid
   -- (a cancelled one has no UPID, and its cancel bit is set: none is left out)
   pub cancelled : (d : SegmentationDescriptor) → r.step.item ≡ Item.Is (Descriptor.Segmentation d) → d.descriptor_detail ≡ DescriptorDetail.Cancel → get_or s (base + offset + 6 + 4) 0 / 128 % 2 ≡ 1
   -- "reserved, with tag, identifier and bytes": the length that is written counts the identifier's four bytes and these
-  pub reserved : (tag : ℕ) (v : View) → r.step.item ≡ Item.Is (Descriptor.Reserved tag v) → Exactly s (base + offset + 6) (get_or s (base + offset + 1) 0 - 4) (inLent base loop v)
+  pub reserved : (tag : ℕ) (v : View) → r.step.item ≡ Item.Is (Descriptor.Reserved tag v) → Exactly s (base + offset + 6) (get_or s (base + offset + 1) 0 - 4) (in_lent base loop v)
       × Exactly s (base + offset + 2) 4 (record { start = base + offset + 2; len = 4; bytes = r.step.identifier })
-  pub text : (k : ℕ) (v : View) → r.step.item ≡ Item.Refused (ItemRefusal.Other (Refusal.InvalidUpidContent k v)) → WholeText s (base + offset + 6) k (inLent base loop v)
+  pub text : (k : ℕ) (v : View) → r.step.item ≡ Item.Refused (ItemRefusal.Other (Refusal.InvalidUpidContent k v)) → WholeText s (base + offset + 6) k (in_lent base loop v)
 
 -- the item that is read at an offset of a section's loop
 abbrev pub WholeAt : List ℕ → Section → ℕ → Reading → Type 0
-WholeAt s x offset r = WholeItem s x.descriptors.at (loopIn s x) offset r
+WholeAt s x offset r = WholeItem s x.descriptors.at (loop_in s x) offset r
 
 -- ---- the private bytes of a command: from 18 to its end
 pub record WholePrivate (s : List ℕ) (i : Identifier) : Type 0 where
-  pub end : 18 + i.len ≡ 14 + commandLength s
-  pub whole : Exactly s 18 (commandLength s - 4) i
+  pub end : 18 + i.len ≡ 14 + command_length s
+  pub whole : Exactly s 18 (command_length s - 4) i
 
 abbrev pub WholeCommand : List ℕ → SpliceCommand → Type 0
-WholeCommand s c = (p : Private) → c ≡ SpliceCommand.PrivateCommand p → WholePrivate s (inSection s p.private_bytes)
+WholeCommand s c = (p : Private) → c ≡ SpliceCommand.PrivateCommand p → WholePrivate s (in_section s p.private_bytes)

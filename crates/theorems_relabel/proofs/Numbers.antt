@@ -8,33 +8,33 @@ use borrow.Author.Tests.{eqb-false}
 use lib.Dec.{eqb, ltb}
 use lib.ListN.{length, get_or}
 use Rattle.bit_stores.specs.declared.Written.{Written}
-use Rattle.c_command_writer.specs.Words.{flatWritten}
+use Rattle.c_command_writer.specs.Words.{flat_written}
 use Rattle.descriptor_loop.specs.Items.{items_of}
-use Rattle.section.specs.Section.{conditions, first, loopBytes}
+use Rattle.section.specs.Section.{conditions, first, loop_bytes}
 use Rattle.table.specs.Bits.{pick, AllBytes}
-use Rattle.theorems_relabel.specs.Answered.{noActive, no_part, unfit, sizeThen, inAccepted, answered}
-use Rattle.theorems_relabel.specs.Replaced.{Request, upidFor, typeFor}
+use Rattle.theorems_relabel.specs.Answered.{no_active, no_part, unfit, size_then, in_accepted, answered}
+use Rattle.theorems_relabel.specs.Replaced.{Request, upid_for, type_for}
 
-pub all-at : (s : List ℕ) → AllBytes s → (j : ℕ) → get_or s j 0 < 256
-all-at [] h zero = omega arith
-all-at [] h (suc j) = omega arith
-all-at (b ∷ bs) h zero = h.0
-all-at (b ∷ bs) h (suc j) = all-at bs h.1 j
+pub all_at : (s : List ℕ) → AllBytes s → (j : ℕ) → get_or s j 0 < 256
+all_at [] h zero = omega arith
+all_at [] h (suc j) = omega arith
+all_at (b ∷ bs) h zero = h.0
+all_at (b ∷ bs) h (suc j) = all_at bs h.1 j
 
 -- a refusal has a number
 abbrev pub Some : Written → Type 0
 Some (Written.Wrote n) = Unit {0}
 Some (Written.Refused n) = n ≡ 0 → ⊥
 
-some-accepted : (q : Request) (room : ℕ) → Some (inAccepted q room)
-unfolding inAccepted
-some-accepted q room =
-    go (noActive q.offset (items_of (loopBytes q.section))) (no_part (typeFor q) (upidFor q) q.part) (ltb 255 (sizeThen q (length (upidFor q)))) (unfit q.part q.upid_type q.bytes)
-    (ltb 254 (sizeThen q (get_or (loopBytes q.section) (q.offset + 1) 0)) || ltb 4096 (sizeThen q (length q.section))) (ltb room (sizeThen q (length q.section)))
+some_accepted : (q : Request) (room : ℕ) → Some (in_accepted q room)
+unfolding in_accepted
+some_accepted q room =
+    go (no_active q.offset (items_of (loop_bytes q.section))) (no_part (type_for q) (upid_for q) q.part) (ltb 255 (size_then q (length (upid_for q)))) (unfit q.part q.upid_type q.bytes)
+    (ltb 254 (size_then q (get_or (loop_bytes q.section) (q.offset + 1) 0)) || ltb 4096 (size_then q (length q.section))) (ltb room (size_then q (length q.section)))
   where
     go : (a b c d e f : Bool)
         → Some (pick a (Written.Refused 41) (pick b (Written.Refused 41) (pick c (Written.Refused 32) (pick d (Written.Refused 33)
-        (pick e (Written.Refused 34) (pick f (Written.Refused 36) (Written.Wrote (sizeThen q (length q.section)))))))))
+        (pick e (Written.Refused 34) (pick f (Written.Refused 36) (Written.Wrote (size_then q (length q.section)))))))))
     go true b c d e f = λ z. omega arith
     go false true c d e f = λ z. omega arith
     go false false true d e f = λ z. omega arith
@@ -43,20 +43,20 @@ some-accepted q room =
     go false false false false false true = λ z. omega arith
     go false false false false false false = tt
 
-pub some-answered : (q : Request) (room : ℕ) → Some (answered q room)
+pub some_answered : (q : Request) (room : ℕ) → Some (answered q room)
 unfolding answered
-some-answered q room = go (eqb (first 1 (conditions q.section)) 0) refl
+some_answered q room = go (eqb (first 1 (conditions q.section)) 0) refl
   where
-    go : (b : Bool) → eqb (first 1 (conditions q.section)) 0 ≡ b → Some (pick b (inAccepted q room) (Written.Refused (first 1 (conditions q.section))))
-    go true e = some-accepted q room
+    go : (b : Bool) → eqb (first 1 (conditions q.section)) 0 ≡ b → Some (pick b (in_accepted q room) (Written.Refused (first 1 (conditions q.section))))
+    go true e = some_accepted q room
     go false e = eqb-false _ 0 e
 
-pub length-of : (w : Written) → Some w → (flatWritten w).refusal ≡ 0 → w ≡ Written.Wrote (flatWritten w).«length»
-unfolding flatWritten
-length-of (Written.Wrote n) h e = refl
-length-of (Written.Refused n) h e = absurd (h e)
+pub length_of_lem : (w : Written) → Some w → (flat_written w).refusal ≡ 0 → w ≡ Written.Wrote (flat_written w).«length»
+unfolding flat_written
+length_of_lem (Written.Wrote n) h e = refl
+length_of_lem (Written.Refused n) h e = absurd (h e)
 
-pub refused-of : (w : Written) → ((flatWritten w).refusal ≡ 0 → ⊥) → (n : ℕ) × (w ≡ Written.Refused n)
-unfolding flatWritten
-refused-of (Written.Wrote n) h = absurd (h refl)
-refused-of (Written.Refused n) h = (n, refl)
+pub refused_of : (w : Written) → ((flat_written w).refusal ≡ 0 → ⊥) → (n : ℕ) × (w ≡ Written.Refused n)
+unfolding flat_written
+refused_of (Written.Wrote n) h = absurd (h refl)
+refused_of (Written.Refused n) h = (n, refl)

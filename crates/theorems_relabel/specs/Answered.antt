@@ -2,46 +2,46 @@
 use Rattle.std.specs.Prelude.{ℕ, zero, suc, ◌+◌, ◌-◌, Bool, true, false, not, ◌||◌, List, [], ◌∷◌, eqb, leb, ltb, length, get_or}
 use Rattle.bit_stores.specs.declared.Written.{Written}
 use Rattle.descriptor_loop.specs.Items.{Listed, items_of}
-use Rattle.relabel_found.specs.Found.{isActive}
+use Rattle.relabel_found.specs.Found.{is_active}
 use Rattle.relabel_upid.specs.Relabel.{taken}
-use Rattle.section.specs.Section.{conditions, first, loopBytes}
+use Rattle.section.specs.Section.{conditions, first, loop_bytes}
 use Rattle.table.specs.Bits.{pick}
-use Rattle.upid.specs.Upid.{read_of, upidOf, parts_in}
-use Rattle.theorems_relabel.specs.Replaced.{Request, run_of, upidFor, typeFor}
+use Rattle.upid.specs.Upid.{read_of, upid_of, parts_in}
+use Rattle.theorems_relabel.specs.Replaced.{Request, run_of, upid_for, type_for}
 
 -- 41: no item among these begins at the offset that is a segmentation descriptor and not cancelled
-unfoldable pub noActive : ℕ → List Listed → Bool
-noActive offset [] = true
-noActive offset (y ∷ ys) = pick (eqb y.offset offset) (not (isActive y.step.item)) (noActive offset ys)
+unfoldable pub no_active : ℕ → List Listed → Bool
+no_active offset [] = true
+no_active offset (y ∷ ys) = pick (eqb y.offset offset) (not (is_active y.step.item)) (no_active offset ys)
 
 -- 41: "a UPID that is none, no such part"
 unfoldable pub no_part : ℕ → List ℕ → ℕ → Bool
-no_part upid-type top zero = eqb (length top) 0
-no_part upid-type top (suc i) = leb (length (parts_in (upidOf upid-type top))) i
+no_part upid_type_number top zero = eqb (length top) 0
+no_part upid_type_number top (suc i) = leb (length (parts_in (upid_of upid_type_number top))) i
 
 -- 33: "an identifier that its reader refuses there .. an empty top UPID"
 unfoldable pub unfit : ℕ → ℕ → List ℕ → Bool
-unfit zero upid-type new = eqb (length new) 0 || not (taken (read_of upid-type 0 new))
-unfit (suc i) upid-type new = not (taken (read_of upid-type 0 new))
+unfit zero upid_type_number new = eqb (length new) 0 || not (taken (read_of upid_type_number 0 new))
+unfit (suc i) upid_type_number new = not (taken (read_of upid_type_number 0 new))
 
 -- a number that counts the identifier's bytes, when it is replaced
-abbrev pub sizeThen : Request → ℕ → ℕ
-sizeThen q n = n - length (run_of (upidFor q) q.part) + length q.bytes
+abbrev pub size_then : Request → ℕ → ℕ
+size_then q n = n - length (run_of (upid_for q) q.part) + length q.bytes
 
 -- 41, 32, 33, 34, 36 in this order, or the whole section's size; the target has `room` bytes
-unfoldable pub inAccepted : Request → ℕ → Written
-inAccepted q room =
-    pick (noActive q.offset (items_of (loopBytes q.section))) (Written.Refused 41)
-    (pick (no_part (typeFor q) (upidFor q) q.part) (Written.Refused 41)
+unfoldable pub in_accepted : Request → ℕ → Written
+in_accepted q room =
+    pick (no_active q.offset (items_of (loop_bytes q.section))) (Written.Refused 41)
+    (pick (no_part (type_for q) (upid_for q) q.part) (Written.Refused 41)
     -- 32: "more than 255 bytes of UPID"
-    (pick (ltb 255 (sizeThen q (length (upidFor q)))) (Written.Refused 32)
+    (pick (ltb 255 (size_then q (length (upid_for q)))) (Written.Refused 32)
     (pick (unfit q.part q.upid_type q.bytes) (Written.Refused 33)
     -- 34: "descriptor over 254 or section over 4,096"
-    (pick (ltb 254 (sizeThen q (get_or (loopBytes q.section) (q.offset + 1) 0)) || ltb 4096 (sizeThen q (length q.section))) (Written.Refused 34)
+    (pick (ltb 254 (size_then q (get_or (loop_bytes q.section) (q.offset + 1) 0)) || ltb 4096 (size_then q (length q.section))) (Written.Refused 34)
     -- 36: "target too short"
-    (pick (ltb room (sizeThen q (length q.section))) (Written.Refused 36)
-    (Written.Wrote (sizeThen q (length q.section))))))))
+    (pick (ltb room (size_then q (length q.section))) (Written.Refused 36)
+    (Written.Wrote (size_then q (length q.section))))))))
 
 -- "1 to 11 for the section" come first
 unfoldable pub answered : Request → ℕ → Written
-answered q room = pick (eqb (first 1 (conditions q.section)) 0) (inAccepted q room) (Written.Refused (first 1 (conditions q.section)))
+answered q room = pick (eqb (first 1 (conditions q.section)) 0) (in_accepted q room) (Written.Refused (first 1 (conditions q.section)))

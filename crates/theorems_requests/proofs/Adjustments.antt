@@ -6,17 +6,17 @@ use native.Mathlib.Nat.{add_comm}
 use native.Mathlib.Omega.{arith}
 use lib.Dec.{eqb, ltb}
 use borrow.Author.Tests.{eq-eqb, ne_eqb, lt-ltb, le-ltb, ltb-true, ltb-false, eqb-true, eqb-false}
-use Rattle.adjust.proofs.Laws.{adjust-is, adjust-wide, adjust-late, chain-is, chain_first, chain_second, undo-is}
-use Rattle.adjust.specs.Adjust.{movedBy, adjustOf, chainOf, undoOf}
+use Rattle.adjust.proofs.Laws.{adjust_is, adjust_wide, adjust_late, chain_is, chain_first, chain_second, undo_is}
+use Rattle.adjust.specs.Adjust.{moved_by, adjust_of, chain_of, undo_of}
 use Rattle.adjust.specs.declared.Adjustment.{Adjustment}
 use Rattle.adjust.specs.declared.Moved.{Moved}
-use Rattle.c_adjust.specs.FlatAdjust.{flatMoved, flatAdjustment}
+use Rattle.c_adjust.specs.FlatAdjust.{flat_moved, flat_adjustment}
 use Rattle.c_adjust.specs.declared.FlatAdjustment.{FlatAdjustment}
-use Rattle.c_section.specs.Flat.{flatAdjusted}
+use Rattle.c_section.specs.Flat.{flat_adjusted}
 use Rattle.c_section.specs.declared.headers.FlatAdjusted.{FlatAdjusted}
-use Rattle.scte35.specs.FlatNumber.{timeHanded}
+use Rattle.scte35.specs.FlatNumber.{time_handed}
 use Rattle.splice_time.proofs.Times as times
-use Rattle.splice_time.specs.Time.{ticks, adjustedOf}
+use Rattle.splice_time.specs.Time.{ticks, adjusted_of}
 use Rattle.splice_time.specs.declared.SpliceTime.{SpliceTime}
 use Rattle.splice_time.specs.declared.SpliceTime.TheVariants.{Unspecified, At}
 use Rattle.table.proofs.Lists.{zero_one}
@@ -25,19 +25,19 @@ use Rattle.theorems_requests.specs.Adjustments.{TimeOverC, ChainedOverC, Back}
 
 -- ---- what was not refused
 
-pub moved-so : (t u : SpliceTime) (a : ℕ) → adjustOf t a ≡ Moved.Is u → (a < 2 ^ 33) × (ticks t < 2 ^ 33) × (movedBy a t ≡ u)
-unfolding adjustOf
-moved-so t u a = go (ltb a (2 ^ 33)) refl (ltb (ticks t) (2 ^ 33)) refl
+pub moved_so : (t u : SpliceTime) (a : ℕ) → adjust_of t a ≡ Moved.Is u → (a < 2 ^ 33) × (ticks t < 2 ^ 33) × (moved_by a t ≡ u)
+unfolding adjust_of
+moved_so t u a = go (ltb a (2 ^ 33)) refl (ltb (ticks t) (2 ^ 33)) refl
   where
     go : (f : Bool) → ltb a (2 ^ 33) ≡ f → (g : Bool) → ltb (ticks t) (2 ^ 33) ≡ g
-        → pick f (pick g (Moved.Is (movedBy a t)) Moved.TooLarge) Moved.TooLarge ≡ Moved.Is u → (a < 2 ^ 33) × (ticks t < 2 ^ 33) × (movedBy a t ≡ u)
+        → pick f (pick g (Moved.Is (moved_by a t)) Moved.TooLarge) Moved.TooLarge ≡ Moved.Is u → (a < 2 ^ 33) × (ticks t < 2 ^ 33) × (moved_by a t ≡ u)
     go true f true g e = (ltb-true a (2 ^ 33) f, ltb-true (ticks t) (2 ^ 33) g, cc)
     go true f false g e = zero_one cc
     go false f g k e = zero_one cc
 
-pub chained-so : (a b c : ℕ) → chainOf a b ≡ Adjustment.Is c → (a < 2 ^ 33) × (b < 2 ^ 33) × ((a + b) % 8589934592 ≡ c)
-unfolding chainOf
-chained-so a b c = go (ltb a (2 ^ 33)) refl (ltb b (2 ^ 33)) refl
+pub chained_so : (a b c : ℕ) → chain_of a b ≡ Adjustment.Is c → (a < 2 ^ 33) × (b < 2 ^ 33) × ((a + b) % 8589934592 ≡ c)
+unfolding chain_of
+chained_so a b c = go (ltb a (2 ^ 33)) refl (ltb b (2 ^ 33)) refl
   where
     go : (f : Bool) → ltb a (2 ^ 33) ≡ f → (g : Bool) → ltb b (2 ^ 33) ≡ g
         → pick f (pick g (Adjustment.Is ((a + b) % 8589934592)) Adjustment.TooLarge) Adjustment.TooLarge ≡ Adjustment.Is c → (a < 2 ^ 33) × (b < 2 ^ 33) × ((a + b) % 8589934592 ≡ c)
@@ -45,9 +45,9 @@ chained-so a b c = go (ltb a (2 ^ 33)) refl (ltb b (2 ^ 33)) refl
     go true f false g e = zero_one cc
     go false f g k e = zero_one cc
 
-pub chain-either : (a b : ℕ) → chainOf a b ≡ chainOf b a
-unfolding chainOf
-chain-either a b = go (ltb a (2 ^ 33)) (ltb b (2 ^ 33))
+pub chain_either : (a b : ℕ) → chain_of a b ≡ chain_of b a
+unfolding chain_of
+chain_either a b = go (ltb a (2 ^ 33)) (ltb b (2 ^ 33))
   where
     go : (f g : Bool) → pick f (pick g (Adjustment.Is ((a + b) % 8589934592)) Adjustment.TooLarge) Adjustment.TooLarge
         ≡ pick g (pick f (Adjustment.Is ((b + a) % 8589934592)) Adjustment.TooLarge) Adjustment.TooLarge
@@ -56,59 +56,59 @@ chain-either a b = go (ltb a (2 ^ 33)) (ltb b (2 ^ 33))
     go false true = refl
     go false false = refl
 
-pub undone : (a : ℕ) → a < 2 ^ 33 → (u : ℕ) × (undoOf a ≡ Adjustment.Is u) × Back a u
-undone a h = let u = (8589934592 - a) % 8589934592 in (u, undo-is a h, record { fits = omega arith; back = omega arith })
+pub undone : (a : ℕ) → a < 2 ^ 33 → (u : ℕ) × (undo_of a ≡ Adjustment.Is u) × Back a u
+undone a h = let u = (8589934592 - a) % 8589934592 in (u, undo_is a h, record { fits = omega arith; back = omega arith })
 
 -- ---- over C: the words of a time and of adjustments
 
-handed-at : (kind ticks : ℕ) → kind ≡ 3 → timeHanded kind ticks ≡ At ticks
-handed-at kind ticks e = rw (eq-eqb kind 3 e)
+handed_at : (kind ticks : ℕ) → kind ≡ 3 → time_handed kind ticks ≡ At ticks
+handed_at kind ticks e = rw (eq-eqb kind 3 e)
 
-handed-other : (kind ticks : ℕ) → (kind ≡ 3 → ⊥) → ticks < 2 ^ 33 → timeHanded kind ticks ≡ Unspecified
-handed-other kind ticks n h = rw (ne_eqb kind 3 n, lt-ltb ticks (2 ^ 33) h)
+handed_other : (kind ticks : ℕ) → (kind ≡ 3 → ⊥) → ticks < 2 ^ 33 → time_handed kind ticks ≡ Unspecified
+handed_other kind ticks n h = rw (ne_eqb kind 3 n, lt-ltb ticks (2 ^ 33) h)
 
-handed-late : (kind ticks : ℕ) → 2 ^ 33 ≤ ticks → timeHanded kind ticks ≡ At ticks
-handed-late kind ticks h = go (eqb kind 3) (ltb ticks (2 ^ 33)) (le-ltb ticks (2 ^ 33) h)
+handed_late : (kind ticks : ℕ) → 2 ^ 33 ≤ ticks → time_handed kind ticks ≡ At ticks
+handed_late kind ticks h = go (eqb kind 3) (ltb ticks (2 ^ 33)) (le-ltb ticks (2 ^ 33) h)
   where
     go : (b f : Bool) → f ≡ false → pick b (At ticks) (pick f Unspecified (At ticks)) ≡ At ticks
     go true f e = refl
     go false f e = rw e
 
 module _ (kind ticks a : ℕ) where
-  pub moves-over-c : TimeOverC kind kind ticks a (flatMoved kind (adjustOf (timeHanded kind ticks) a))
-  unfolding flatMoved
-  moves-over-c = record {
-    specified = λ e h k. ap (λ (t : SpliceTime). flatMoved kind (adjustOf t a)) (handed-at kind ticks e) ∙ ap (flatMoved kind) (adjust-is (At ticks) a k h);
-    stays = λ n h k. ap (λ (t : SpliceTime). flatMoved kind (adjustOf t a)) (handed-other kind ticks n h) ∙ ap (flatMoved kind) (adjust-is Unspecified a k (omega arith));
-    late = λ k h. ap (λ (t : SpliceTime). flatMoved kind (adjustOf t a)) (handed-late kind ticks h) ∙ ap (flatMoved kind) (adjust-late (At ticks) a k h);
-    wide = λ k. ap (flatMoved kind) (adjust-wide (timeHanded kind ticks) a k);
+  pub moves_over_c : TimeOverC kind kind ticks a (flat_moved kind (adjust_of (time_handed kind ticks) a))
+  unfolding flat_moved
+  moves_over_c = record {
+    specified = λ e h k. ap (λ (t : SpliceTime). flat_moved kind (adjust_of t a)) (handed_at kind ticks e) ∙ ap (flat_moved kind) (adjust_is (At ticks) a k h);
+    stays = λ n h k. ap (λ (t : SpliceTime). flat_moved kind (adjust_of t a)) (handed_other kind ticks n h) ∙ ap (flat_moved kind) (adjust_is Unspecified a k (omega arith));
+    late = λ k h. ap (λ (t : SpliceTime). flat_moved kind (adjust_of t a)) (handed_late kind ticks h) ∙ ap (flat_moved kind) (adjust_late (At ticks) a k h);
+    wide = λ k. ap (flat_moved kind) (adjust_wide (time_handed kind ticks) a k);
   }
 
-  pub adjusts-over-c : TimeOverC 0 kind ticks a (flatAdjusted (adjustedOf (timeHanded kind ticks) a))
-  unfolding flatAdjusted
-  adjusts-over-c = record {
-    specified = λ e h k. ap (λ (t : SpliceTime). flatAdjusted (adjustedOf t a)) (handed-at kind ticks e) ∙ ap flatAdjusted (sym (times.adjust-at a k (At ticks) ticks refl h));
-    stays = λ n h k. ap (λ (t : SpliceTime). flatAdjusted (adjustedOf t a)) (handed-other kind ticks n h) ∙ ap flatAdjusted (times.adjusted-none a k).0;
-    late = λ k h. ap (λ (t : SpliceTime). flatAdjusted (adjustedOf t a)) (handed-late kind ticks h) ∙ ap flatAdjusted ((times.adjusted-wide ticks a).1 k h);
-    wide = λ k. ap flatAdjusted ((times.adjusted-wide ticks a).0 k (timeHanded kind ticks));
+  pub adjusts_over_c : TimeOverC 0 kind ticks a (flat_adjusted (adjusted_of (time_handed kind ticks) a))
+  unfolding flat_adjusted
+  adjusts_over_c = record {
+    specified = λ e h k. ap (λ (t : SpliceTime). flat_adjusted (adjusted_of t a)) (handed_at kind ticks e) ∙ ap flat_adjusted (sym (times.adjust_at a k (At ticks) ticks refl h));
+    stays = λ n h k. ap (λ (t : SpliceTime). flat_adjusted (adjusted_of t a)) (handed_other kind ticks n h) ∙ ap flat_adjusted (times.adjusted_none a k).0;
+    late = λ k h. ap (λ (t : SpliceTime). flat_adjusted (adjusted_of t a)) (handed_late kind ticks h) ∙ ap flat_adjusted ((times.adjusted_wide ticks a).1 k h);
+    wide = λ k. ap flat_adjusted ((times.adjusted_wide ticks a).0 k (time_handed kind ticks));
   }
 
-pub chains-over-c : (a b : ℕ) → ChainedOverC a b (flatAdjustment (chainOf a b))
-unfolding flatAdjustment
-chains-over-c a b = record {
-  one = λ h k. ap flatAdjustment (chain-is a b h k);
-  first-wide = λ h. ap flatAdjustment (chain_first a b h);
-  second-wide = λ h k. ap flatAdjustment (chain_second a b h k);
+pub chains_over_c : (a b : ℕ) → ChainedOverC a b (flat_adjustment (chain_of a b))
+unfolding flat_adjustment
+chains_over_c a b = record {
+  one = λ h k. ap flat_adjustment (chain_is a b h k);
+  first_wide = λ h. ap flat_adjustment (chain_first a b h);
+  second_wide = λ h k. ap flat_adjustment (chain_second a b h k);
 }
 
-pub undoes-over-c : (a : ℕ) → a < 2 ^ 33 → ((flatAdjustment (undoOf a)).refusal ≡ 0) × Back a (flatAdjustment (undoOf a)).adjustment
-unfolding flatAdjustment
-undoes-over-c a h = let u = undone a h in rw u.1 (refl, u.2)
+pub undoes_over_c : (a : ℕ) → a < 2 ^ 33 → ((flat_adjustment (undo_of a)).refusal ≡ 0) × Back a (flat_adjustment (undo_of a)).adjustment
+unfolding flat_adjustment
+undoes_over_c a h = let u = undone a h in rw u.1 (refl, u.2)
 
-pub adjustment-over-c : (x : Adjustment) (f : FlatAdjustment) → f ≡ flatAdjustment x → f.refusal ≡ 0 → x ≡ Adjustment.Is f.adjustment
-unfolding flatAdjustment
-adjustment-over-c (Adjustment.Is a) f e z = ap Adjustment.Is (sym (ap (λ (v : FlatAdjustment). v.adjustment) e))
-adjustment-over-c Adjustment.TooLarge f e z = let q : f.refusal ≡ 32 = ap (λ (v : FlatAdjustment). v.refusal) e in absurd (omega (arith, q, z))
+pub adjustment_over_c : (x : Adjustment) (f : FlatAdjustment) → f ≡ flat_adjustment x → f.refusal ≡ 0 → x ≡ Adjustment.Is f.adjustment
+unfolding flat_adjustment
+adjustment_over_c (Adjustment.Is a) f e z = ap Adjustment.Is (sym (ap (λ (v : FlatAdjustment). v.adjustment) e))
+adjustment_over_c Adjustment.TooLarge f e z = let q : f.refusal ≡ 32 = ap (λ (v : FlatAdjustment). v.refusal) e in absurd (omega (arith, q, z))
 
 -- ---- what follows from the words alone
 
@@ -151,9 +151,9 @@ one_time {kind = kind} {ticks = ticks} {a = a} {f = f} {g = g} m n = go (ltb a (
         )
 
 -- by a and then by b, of a specified time, is once by their chain
-pub twice-specified : {o q r kind ticks a b : ℕ} {f g h : FlatAdjusted} {c : FlatAdjustment} → kind ≡ 3 → TimeOverC o kind ticks a f → f.refusal ≡ 0
+pub twice_specified : {o q r kind ticks a b : ℕ} {f g h : FlatAdjusted} {c : FlatAdjustment} → kind ≡ 3 → TimeOverC o kind ticks a f → f.refusal ≡ 0
     → TimeOverC q f.kind f.ticks b g → g.refusal ≡ 0 → ChainedOverC a b c → TimeOverC r kind ticks c.adjustment h → h ≡ g
-twice-specified {kind = kind} {ticks = ticks} {a = a} {b = b} {f = f} {g = g} {h = h} {c = c} three m e n d chained once =
+twice_specified {kind = kind} {ticks = ticks} {a = a} {b = b} {f = f} {g = g} {h = h} {c = c} three m e n d chained once =
     let l = not_wide m e in
     let k = not_wide n d in
     let first : f ≡ time ((ticks + a) % 8589934592) = m.specified three l.0 l.1 in
@@ -168,9 +168,9 @@ twice-specified {kind = kind} {ticks = ticks} {a = a} {b = b} {f = f} {g = g} {h
     sums t x y = omega arith
 
 -- and of a time that is not, its kind stays each time
-pub twice-other : {kind ticks a b : ℕ} {f g h : FlatAdjusted} {c : FlatAdjustment} → (kind ≡ 3 → ⊥) → TimeOverC kind kind ticks a f → f.refusal ≡ 0
+pub twice_other : {kind ticks a b : ℕ} {f g h : FlatAdjusted} {c : FlatAdjustment} → (kind ≡ 3 → ⊥) → TimeOverC kind kind ticks a f → f.refusal ≡ 0
     → TimeOverC f.kind f.kind f.ticks b g → g.refusal ≡ 0 → ChainedOverC a b c → TimeOverC kind kind ticks c.adjustment h → h ≡ g
-twice-other {kind = kind} {ticks = ticks} {a = a} {b = b} {f = f} {g = g} {h = h} {c = c} none m e n d chained once =
+twice_other {kind = kind} {ticks = ticks} {a = a} {b = b} {f = f} {g = g} {h = h} {c = c} none m e n d chained once =
     let l = not_wide m e in
     let k = not_wide n d in
     let first : f ≡ record { refusal = 0; kind = kind; ticks = 0 } = m.stays none l.0 l.1 in
@@ -180,9 +180,9 @@ twice-other {kind = kind} {ticks = ticks} {a = a} {b = b} {f = f} {g = g} {h = h
     once.stays none l.0 fits ∙ ap (λ (x : ℕ). record { refusal = 0; kind = x; ticks = 0 }) (sym its) ∙ sym (n.stays (λ z. none (sym its ∙ z)) k.0 k.1)
 
 -- by a and then by what takes it back
-pub back-specified : {o q kind ticks a u : ℕ} {f g : FlatAdjusted} → kind ≡ 3 → TimeOverC o kind ticks a f → f.refusal ≡ 0 → Back a u
+pub back_specified : {o q kind ticks a u : ℕ} {f g : FlatAdjusted} → kind ≡ 3 → TimeOverC o kind ticks a f → f.refusal ≡ 0 → Back a u
     → TimeOverC q f.kind f.ticks u g → g ≡ record { refusal = 0; kind = 3; ticks = ticks }
-back-specified {ticks = ticks} {a = a} {u = u} {f = f} three m e w n =
+back_specified {ticks = ticks} {a = a} {u = u} {f = f} three m e w n =
     let l = not_wide m e in
     let first : f ≡ time ((ticks + a) % 8589934592) = m.specified three l.0 l.1 in
     let moved : f.ticks ≡ (ticks + a) % 8589934592 = ap (λ (v : FlatAdjusted). v.ticks) first in

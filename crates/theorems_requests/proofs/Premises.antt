@@ -3,17 +3,17 @@ use Prim.Native.Nat.{ℕ}
 use mathlib.Core.List.{List, []}
 use mathlib.Core.Path.{refl}
 use denote.Ref.{Bor}
-use Rattle.adjust.specs.Adjust.{adjustOf, chainOf, undoOf}
-use Rattle.adjust_section.specs.Adjusted.{adjustedSection}
-use Rattle.bit_stores.specs.Written.{answer_of, laterOf}
-use Rattle.c_adjust.specs.FlatAdjust.{flatMoved, flatAdjustment}
-use Rattle.c_command_writer.specs.Words.{flatWritten}
-use Rattle.c_packet.specs.PacketWords.{stateIn, keptIn, fedNumber, keptFed, takenNumber, keptTaken}
-use Rattle.c_section.specs.Flat.{flatAdjusted}
-use Rattle.scte35.specs.FlatNumber.{timeHanded}
-use Rattle.splice_time.specs.Time.{adjustedOf}
+use Rattle.adjust.specs.Adjust.{adjust_of, chain_of, undo_of}
+use Rattle.adjust_section.specs.Adjusted.{adjusted_section}
+use Rattle.bit_stores.specs.Written.{answer_of, later_of}
+use Rattle.c_adjust.specs.FlatAdjust.{flat_moved, flat_adjustment}
+use Rattle.c_command_writer.specs.Words.{flat_written}
+use Rattle.c_packet.specs.PacketWords.{state_in, kept_in, fed_number, kept_fed, taken_number, kept_taken}
+use Rattle.c_section.specs.Flat.{flat_adjusted}
+use Rattle.scte35.specs.FlatNumber.{time_handed}
+use Rattle.splice_time.specs.Time.{adjusted_of}
 use Rattle.splice_time.specs.declared.SpliceTime.{SpliceTime}
-use Rattle.transport.specs.Assembler.{freshAssembler, fedOf, taken_of}
+use Rattle.transport.specs.Assembler.{fresh_assembler, fed_of, taken_of}
 use Rattle.transport.specs.declared.Assembler.{Assembler}
 use Rattle.transport_packet.specs.Packet.{head_of}
 use Rattle.theorems_requests.proofs.Contracts.{Adjusts, AdjustsUnder, Chains, Undoes, MovesTimeC, AdjustsTimeC, ChainsC, UndoesC, AdjustsSection, AdjustsSectionC, ReadsHead, Starts, Feeds, Takes, StartsC, FeedsC, TakesC}
@@ -24,133 +24,133 @@ slice s = record { ref_ptr = (0, 0); now = s }
 
 -- ---- times and adjustments
 
-pub adjust-is-met : (t : SpliceTime) (a : ℕ) → Adjusts t a (adjustOf t a)
-adjust-is-met t a = record { κ = tt; arguments = (t, (a, tt)); answer = adjustOf t a; after = (t, (a, tt)); taken = refl; left = refl; learnt-so = refl }
+pub adjust_is_met : (t : SpliceTime) (a : ℕ) → Adjusts t a (adjust_of t a)
+adjust_is_met t a = record { κ = tt; arguments = (t, (a, tt)); answer = adjust_of t a; after = (t, (a, tt)); taken = refl; left = refl; learnt_so = refl }
 
-pub adjusted-time-is-met : (t : SpliceTime) (p : ℕ) → AdjustsUnder t p (adjustedOf t p)
-adjusted-time-is-met t p = record { κ = tt; arguments = (t, (p, tt)); answer = adjustedOf t p; after = (t, (p, tt)); taken = refl; left = refl; learnt-so = refl }
+pub adjusted_time_is_met : (t : SpliceTime) (p : ℕ) → AdjustsUnder t p (adjusted_of t p)
+adjusted_time_is_met t p = record { κ = tt; arguments = (t, (p, tt)); answer = adjusted_of t p; after = (t, (p, tt)); taken = refl; left = refl; learnt_so = refl }
 
-pub chain-is-met : (a b : ℕ) → Chains a b (chainOf a b)
-chain-is-met a b = record { κ = tt; arguments = (a, (b, tt)); answer = chainOf a b; after = (a, (b, tt)); taken = refl; left = refl; learnt-so = refl }
+pub chain_is_met : (a b : ℕ) → Chains a b (chain_of a b)
+chain_is_met a b = record { κ = tt; arguments = (a, (b, tt)); answer = chain_of a b; after = (a, (b, tt)); taken = refl; left = refl; learnt_so = refl }
 
-pub undo-is-met : (a : ℕ) → Undoes a (undoOf a)
-undo-is-met a = record { κ = tt; arguments = (a, tt); answer = undoOf a; after = (a, tt); taken = refl; left = refl; learnt-so = refl }
+pub undo_is_met : (a : ℕ) → Undoes a (undo_of a)
+undo_is_met a = record { κ = tt; arguments = (a, tt); answer = undo_of a; after = (a, tt); taken = refl; left = refl; learnt_so = refl }
 
-pub scte35-move-time-is-met : (kind ticks a : ℕ) → MovesTimeC kind ticks a (flatMoved kind (adjustOf (timeHanded kind ticks) a))
-scte35-move-time-is-met kind ticks a = record {
+pub scte35_move_time_is_met : (kind ticks a : ℕ) → MovesTimeC kind ticks a (flat_moved kind (adjust_of (time_handed kind ticks) a))
+scte35_move_time_is_met kind ticks a = record {
   κ = tt;
   arguments = (kind, (ticks, (a, tt)));
-  answer = flatMoved kind (adjustOf (timeHanded kind ticks) a);
+  answer = flat_moved kind (adjust_of (time_handed kind ticks) a);
   after = (kind, (ticks, (a, tt)));
   taken = refl;
   left = refl;
-  learnt-so = refl;
+  learnt_so = refl;
 }
 
-pub scte35-adjust-time-is-met : (kind ticks p : ℕ) → AdjustsTimeC kind ticks p (flatAdjusted (adjustedOf (timeHanded kind ticks) p))
-scte35-adjust-time-is-met kind ticks p = record {
+pub scte35_adjust_time_is_met : (kind ticks p : ℕ) → AdjustsTimeC kind ticks p (flat_adjusted (adjusted_of (time_handed kind ticks) p))
+scte35_adjust_time_is_met kind ticks p = record {
   κ = tt;
   arguments = (kind, (ticks, (p, tt)));
-  answer = flatAdjusted (adjustedOf (timeHanded kind ticks) p);
+  answer = flat_adjusted (adjusted_of (time_handed kind ticks) p);
   after = (kind, (ticks, (p, tt)));
   taken = refl;
   left = refl;
-  learnt-so = refl;
+  learnt_so = refl;
 }
 
-pub scte35-chain-adjustments-is-met : (a b : ℕ) → ChainsC a b (flatAdjustment (chainOf a b))
-scte35-chain-adjustments-is-met a b = record { κ = tt; arguments = (a, (b, tt)); answer = flatAdjustment (chainOf a b); after = (a, (b, tt)); taken = refl; left = refl; learnt-so = refl }
+pub scte35_chain_adjustments_is_met : (a b : ℕ) → ChainsC a b (flat_adjustment (chain_of a b))
+scte35_chain_adjustments_is_met a b = record { κ = tt; arguments = (a, (b, tt)); answer = flat_adjustment (chain_of a b); after = (a, (b, tt)); taken = refl; left = refl; learnt_so = refl }
 
-pub scte35-undo-adjustment-is-met : (a : ℕ) → UndoesC a (flatAdjustment (undoOf a))
-scte35-undo-adjustment-is-met a = record { κ = tt; arguments = (a, tt); answer = flatAdjustment (undoOf a); after = (a, tt); taken = refl; left = refl; learnt-so = refl }
+pub scte35_undo_adjustment_is_met : (a : ℕ) → UndoesC a (flat_adjustment (undo_of a))
+scte35_undo_adjustment_is_met a = record { κ = tt; arguments = (a, tt); answer = flat_adjustment (undo_of a); after = (a, tt); taken = refl; left = refl; learnt_so = refl }
 
 -- ---- the single box
 
-pub adjust-section-is-met : (s : List ℕ) (a : ℕ) (target : List ℕ) → AdjustsSection s a target (answer_of (adjustedSection s a) target) (laterOf (adjustedSection s a) target)
-adjust-section-is-met s a target = record {
+pub adjust_section_is_met : (s : List ℕ) (a : ℕ) (target : List ℕ) → AdjustsSection s a target (answer_of (adjusted_section s a) target) (later_of (adjusted_section s a) target)
+adjust_section_is_met s a target = record {
   κ = ([], ([], tt));
   arguments = (slice s, (a, (slice target, tt)));
-  answer = answer_of (adjustedSection s a) target;
-  after = (slice s, (a, (slice (laterOf (adjustedSection s a) target), tt)));
+  answer = answer_of (adjusted_section s a) target;
+  after = (slice s, (a, (slice (later_of (adjusted_section s a) target), tt)));
   taken = refl;
   left = refl;
-  learnt-so = (refl, refl);
+  learnt_so = (refl, refl);
 }
 
 -- from offset 0 on
-pub scte35-adjust-section-is-met : (s : List ℕ) (a : ℕ) (target : List ℕ)
-    → AdjustsSectionC s a target (flatWritten (answer_of (adjustedSection s a) target)) (laterOf (adjustedSection s a) target)
-scte35-adjust-section-is-met s a target = record {
+pub scte35_adjust_section_is_met : (s : List ℕ) (a : ℕ) (target : List ℕ)
+    → AdjustsSectionC s a target (flat_written (answer_of (adjusted_section s a) target)) (later_of (adjusted_section s a) target)
+scte35_adjust_section_is_met s a target = record {
   κ = ([], ([], tt));
   arguments = (slice s, (0, (a, (slice target, tt))));
-  answer = flatWritten (answer_of (adjustedSection s a) target);
-  after = (slice s, (0, (a, (slice (laterOf (adjustedSection s a) target), tt))));
+  answer = flat_written (answer_of (adjusted_section s a) target);
+  after = (slice s, (0, (a, (slice (later_of (adjusted_section s a) target), tt))));
   taken = refl;
   left = refl;
-  learnt-so = (refl, refl);
+  learnt_so = (refl, refl);
 }
 
 -- ---- transport packets
 
-pub read-head-is-met : (pid : ℕ) (p : List ℕ) → ReadsHead pid p (head_of pid p)
-read-head-is-met pid p = record { κ = ([], tt); arguments = (pid, (slice p, tt)); answer = head_of pid p; after = (pid, (slice p, tt)); taken = refl; left = refl; learnt-so = refl }
+pub read_head_is_met : (pid : ℕ) (p : List ℕ) → ReadsHead pid p (head_of pid p)
+read_head_is_met pid p = record { κ = ([], tt); arguments = (pid, (slice p, tt)); answer = head_of pid p; after = (pid, (slice p, tt)); taken = refl; left = refl; learnt_so = refl }
 
-pub fresh-is-met : (pid : ℕ) → Starts pid (freshAssembler pid)
-fresh-is-met pid = record { κ = tt; arguments = (pid, tt); answer = freshAssembler pid; after = (pid, tt); taken = refl; left = refl; learnt-so = refl }
+pub fresh_is_met : (pid : ℕ) → Starts pid (fresh_assembler pid)
+fresh_is_met pid = record { κ = tt; arguments = (pid, tt); answer = fresh_assembler pid; after = (pid, tt); taken = refl; left = refl; learnt_so = refl }
 
-pub feed-is-met : (a : Assembler) (p b : List ℕ) → Feeds a p b (fedOf a p b).answer (fedOf a p b).buffer
-feed-is-met a p b = record {
+pub feed_is_met : (a : Assembler) (p b : List ℕ) → Feeds a p b (fed_of a p b).answer (fed_of a p b).buffer
+feed_is_met a p b = record {
   κ = ([], ([], tt));
   arguments = (a, (slice p, (slice b, tt)));
-  answer = (fedOf a p b).answer;
-  after = (a, (slice p, (slice (fedOf a p b).buffer, tt)));
+  answer = (fed_of a p b).answer;
+  after = (a, (slice p, (slice (fed_of a p b).buffer, tt)));
   taken = refl;
   left = refl;
-  learnt-so = refl;
+  learnt_so = refl;
 }
 
-pub take-is-met : (a : Assembler) (p b : List ℕ) → Takes a p b (taken_of a p b).answer (taken_of a p b).buffer
-take-is-met a p b = record {
+pub take_is_met : (a : Assembler) (p b : List ℕ) → Takes a p b (taken_of a p b).answer (taken_of a p b).buffer
+take_is_met a p b = record {
   κ = ([], ([], tt));
   arguments = (a, (slice p, (slice b, tt)));
   answer = (taken_of a p b).answer;
   after = (a, (slice p, (slice (taken_of a p b).buffer, tt)));
   taken = refl;
   left = refl;
-  learnt-so = refl;
+  learnt_so = refl;
 }
 
-pub scte35-packet-start-is-met : (pid : ℕ) (words : List ℕ) → StartsC pid words (keptIn words (freshAssembler pid))
-scte35-packet-start-is-met pid words = record {
+pub scte35_packet_start_is_met : (pid : ℕ) (words : List ℕ) → StartsC pid words (kept_in words (fresh_assembler pid))
+scte35_packet_start_is_met pid words = record {
   κ = ([], tt);
   arguments = (pid, (slice words, tt));
   answer = tt;
-  after = (pid, (slice (keptIn words (freshAssembler pid)), tt));
+  after = (pid, (slice (kept_in words (fresh_assembler pid)), tt));
   taken = refl;
   left = refl;
-  learnt-so = refl;
+  learnt_so = refl;
 }
 
-pub scte35-packet-feed-is-met : (words p b : List ℕ)
-    → FeedsC words p b (fedNumber (fedOf (stateIn words) p b).answer) (keptFed words (fedOf (stateIn words) p b).answer) (fedOf (stateIn words) p b).buffer
-scte35-packet-feed-is-met words p b = record {
+pub scte35_packet_feed_is_met : (words p b : List ℕ)
+    → FeedsC words p b (fed_number (fed_of (state_in words) p b).answer) (kept_fed words (fed_of (state_in words) p b).answer) (fed_of (state_in words) p b).buffer
+scte35_packet_feed_is_met words p b = record {
   κ = ([], ([], ([], tt)));
   arguments = (slice words, (slice p, (slice b, tt)));
-  answer = fedNumber (fedOf (stateIn words) p b).answer;
-  after = (slice (keptFed words (fedOf (stateIn words) p b).answer), (slice p, (slice (fedOf (stateIn words) p b).buffer, tt)));
+  answer = fed_number (fed_of (state_in words) p b).answer;
+  after = (slice (kept_fed words (fed_of (state_in words) p b).answer), (slice p, (slice (fed_of (state_in words) p b).buffer, tt)));
   taken = refl;
   left = refl;
-  learnt-so = (refl, (refl, refl));
+  learnt_so = (refl, (refl, refl));
 }
 
-pub scte35-packet-take-is-met : (words p b : List ℕ)
-    → TakesC words p b (takenNumber (taken_of (stateIn words) p b).answer) (keptTaken words (taken_of (stateIn words) p b).answer) (taken_of (stateIn words) p b).buffer
-scte35-packet-take-is-met words p b = record {
+pub scte35_packet_take_is_met : (words p b : List ℕ)
+    → TakesC words p b (taken_number (taken_of (state_in words) p b).answer) (kept_taken words (taken_of (state_in words) p b).answer) (taken_of (state_in words) p b).buffer
+scte35_packet_take_is_met words p b = record {
   κ = ([], ([], ([], tt)));
   arguments = (slice words, (slice p, (slice b, tt)));
-  answer = takenNumber (taken_of (stateIn words) p b).answer;
-  after = (slice (keptTaken words (taken_of (stateIn words) p b).answer), (slice p, (slice (taken_of (stateIn words) p b).buffer, tt)));
+  answer = taken_number (taken_of (state_in words) p b).answer;
+  after = (slice (kept_taken words (taken_of (state_in words) p b).answer), (slice p, (slice (taken_of (state_in words) p b).buffer, tt)));
   taken = refl;
   left = refl;
-  learnt-so = (refl, (refl, refl));
+  learnt_so = (refl, (refl, refl));
 }

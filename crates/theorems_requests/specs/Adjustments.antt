@@ -41,13 +41,13 @@ pub record TimeOverC (other kind ticks a : ℕ) (f : FlatAdjusted) : Type 0 wher
 -- two as one
 pub record ChainedBy (a b : ℕ) (x : Adjustment) : Type 0 where
   pub one : a < 2 ^ 33 → b < 2 ^ 33 → x ≡ Adjustment.Is ((a + b) % 8589934592)
-  pub first-wide : 2 ^ 33 ≤ a → x ≡ Adjustment.TooLarge
-  pub second-wide : a < 2 ^ 33 → 2 ^ 33 ≤ b → x ≡ Adjustment.TooLarge
+  pub first_wide : 2 ^ 33 ≤ a → x ≡ Adjustment.TooLarge
+  pub second_wide : a < 2 ^ 33 → 2 ^ 33 ≤ b → x ≡ Adjustment.TooLarge
 
 pub record ChainedOverC (a b : ℕ) (f : FlatAdjustment) : Type 0 where
   pub one : a < 2 ^ 33 → b < 2 ^ 33 → f ≡ record { refusal = 0; adjustment = (a + b) % 8589934592 }
-  pub first-wide : 2 ^ 33 ≤ a → f ≡ record { refusal = 32; adjustment = 0 }
-  pub second-wide : a < 2 ^ 33 → 2 ^ 33 ≤ b → f ≡ record { refusal = 32; adjustment = 0 }
+  pub first_wide : 2 ^ 33 ≤ a → f ≡ record { refusal = 32; adjustment = 0 }
+  pub second_wide : a < 2 ^ 33 → 2 ^ 33 ≤ b → f ≡ record { refusal = 32; adjustment = 0 }
 
 -- u takes a back: by a and by u together nothing is moved
 pub record Back (a u : ℕ) : Type 0 where

@@ -7,7 +7,7 @@ use Rattle.transport.specs.declared.Fed.{Fed}
 use Rattle.transport.specs.declared.Fed.TheVariants as fed
 use Rattle.transport.specs.declared.Taken.{Taken}
 use Rattle.transport.specs.declared.Taken.TheVariants as taken
-use Rattle.transport_laws.specs.Runs.{stateAfter}
+use Rattle.transport_laws.specs.Runs.{state_after}
 use Rattle.transport_packet.specs.declared.packet.Head.{Head}
 use Rattle.transport_packet.specs.declared.packet.Head.TheVariants.{Refused, NoPayload, Payload}
 use Rattle.transport_packet.specs.declared.packet.Refusal.{Refusal}
@@ -52,17 +52,17 @@ pub record HeadSays (pid : ℕ) (p : List ℕ) (h : Head) : Type 0 where
 
 -- ---- the assembler's calls in numbers
 
-abbrev pub refusalNumber : Refusal → ℕ
-refusalNumber NotAPacket = 71
-refusalNumber OtherPid = 72
-refusalNumber Scrambled = 73
-refusalNumber PayloadOutside = 74
-refusalNumber SectionLengthTooLarge = 75
+abbrev pub refusal_number : Refusal → ℕ
+refusal_number NotAPacket = 71
+refusal_number OtherPid = 72
+refusal_number Scrambled = 73
+refusal_number PayloadOutside = 74
+refusal_number SectionLengthTooLarge = 75
 
 -- a packet fed: 0 and the state behind it, or the refusal's number, and the state stays
 pub data FeedsTo (Feeds : Assembler → List ℕ → List ℕ → Fed → List ℕ → Type 0) : Assembler → List ℕ → List ℕ → ℕ → Assembler → List ℕ → Type 0 where
   goes_in : {a later : Assembler} {p b c : List ℕ} {n : ℕ} → Feeds a p b (fed.Is later) c → n ≡ 0 → FeedsTo Feeds a p b n later c
-  is-refused : {a : Assembler} {p b c : List ℕ} {n : ℕ} {r : Refusal} → Feeds a p b (fed.Refused r) c → n ≡ refusalNumber r → FeedsTo Feeds a p b n a c
+  is_refused : {a : Assembler} {p b c : List ℕ} {n : ℕ} {r : Refusal} → Feeds a p b (fed.Refused r) c → n ≡ refusal_number r → FeedsTo Feeds a p b n a c
 
 -- a section taken: its length, or 0 where nothing is left of the packet
 pub data TakesTo (Takes : Assembler → List ℕ → List ℕ → Taken → List ℕ → Type 0) : Assembler → List ℕ → List ℕ → ℕ → Assembler → List ℕ → Type 0 where
@@ -85,20 +85,20 @@ module _ {S : Type 0} (Feed Take : S → List ℕ → List ℕ → ℕ → S →
         → Feed s p b 0 t c → Drained t p c ss u d → PacketRun u d ps ns later v e → PacketRun s b (p ∷ ps) (0 ∷ ns) (ss ++ later) v e
 
 -- the packets that were answered by 0
-unfoldable pub unrefusedOf : List (List ℕ) → List ℕ → List (List ℕ)
-unrefusedOf [] ns = []
-unrefusedOf (p ∷ ps) [] = []
-unrefusedOf (p ∷ ps) (zero ∷ ns) = p ∷ unrefusedOf ps ns
-unrefusedOf (p ∷ ps) (suc n ∷ ns) = unrefusedOf ps ns
+unfoldable pub unrefused_of : List (List ℕ) → List ℕ → List (List ℕ)
+unrefused_of [] ns = []
+unrefused_of (p ∷ ps) [] = []
+unrefused_of (p ∷ ps) (zero ∷ ns) = p ∷ unrefused_of ps ns
+unrefused_of (p ∷ ps) (suc n ∷ ns) = unrefused_of ps ns
 
 -- the numbers that the rules, as a step on lists (transport/specs/Step.antt), give packets one after the other
-abbrev pub toldNumber : Told → ℕ
-toldNumber (Told.refused r) = refusalNumber r
-toldNumber (Told.took s sections) = 0
+abbrev pub told_number : Told → ℕ
+told_number (Told.refused r) = refusal_number r
+told_number (Told.took s sections) = 0
 
-unfoldable pub stepNumbers : ℕ → State → List (List ℕ) → List ℕ
-stepNumbers pid s [] = []
-stepNumbers pid s (p ∷ ps) = toldNumber (step_of pid s p) ∷ stepNumbers pid (stateAfter s (step_of pid s p)) ps
+unfoldable pub step_numbers : ℕ → State → List (List ℕ) → List ℕ
+step_numbers pid s [] = []
+step_numbers pid s (p ∷ ps) = told_number (step_of pid s p) ∷ step_numbers pid (state_after s (step_of pid s p)) ps
 
 -- no number but 0 was answered
 abbrev pub Zeros : List ℕ → Type 0

@@ -7,14 +7,14 @@ use native.Mathlib.Omega.{arith}
 use borrow.Author.Tests.{eq-eqb, ne_eqb, lt-ltb, le-ltb}
 use lib.Dec.{eqb, ltb}
 use lib.ListN.{length, take, drop, length-take, length-drop}
-use Rattle.descriptor.specs.Descriptor.{movedRefusal}
+use Rattle.descriptor.specs.Descriptor.{moved_refusal}
 use Rattle.table.specs.Bits.{pick}
 use Rattle.upid.proofs.Laws.{walk_any}
 use Rattle.upid.specs.Text.{text_of}
-use Rattle.upid.specs.Upid.{◌then◌, walk_of, plain_of, length_of, isText, reportedOf, read_of, checkOf}
+use Rattle.upid.specs.Upid.{◌then◌, walk_of, plain_of, length_of, is_text, reported_of, read_of, check_of}
 use Rattle.upid.specs.declared.Refusal.{Refusal}
 use Rattle.upid.specs.declared.UpidRead.{UpidRead}
-use Rattle.theorems_rows.specs.Payloads.{MidReads, partRead}
+use Rattle.theorems_rows.specs.Payloads.{MidReads, part_read}
 
 module _ (start k n : ℕ) (rest : List ℕ) where
   -- the part, and those behind it
@@ -41,9 +41,9 @@ module _ (start k n : ℕ) (rest : List ℕ) where
       ∙ ap (λ (w : UpidRead). pick (ltb (length rest) n) (UpidRead.Refused (Refusal.NotEnoughData n (length rest))) (w then walk_of (suc (length rest)) (start + (2 + n)) (drop n rest))) inner
       ∙ ap (λ (w : UpidRead). pick (ltb (length rest) n) (UpidRead.Refused (Refusal.NotEnoughData n (length rest))) (read_of k (start + 2) (take n rest) then w)) behind
 
-pub mid-reads : (start : ℕ) → MidReads start
+pub mid_reads : (start : ℕ) → MidReads start
 unfolding read_of walk_of ◌then◌
-mid-reads start = record {
+mid_reads start = record {
   done = refl;
   headless = λ k. refl;
   short = λ k n rest h. split start k n rest ∙ rw (lt-ltb (length rest) n h);
@@ -51,23 +51,23 @@ mid-reads start = record {
   next = λ k n q rest h e. split start k n rest ∙ rw (le-ltb (length rest) n h, e);
 }
 
-pub mid-at-top : (b : List ℕ) → 1 ≤ length b → length b ≤ 255 → checkOf 13 b ≡ read_of 13 0 b
-unfolding checkOf
-mid-at-top b some fits = rw (le-ltb 255 (length b) fits, ne_eqb (length b) 0 (λ z. omega arith))
+pub mid_at_top : (b : List ℕ) → 1 ≤ length b → length b ≤ 255 → check_of 13 b ≡ read_of 13 0 b
+unfolding check_of
+mid_at_top b some fits = rw (le-ltb 255 (length b) fits, ne_eqb (length b) 0 (λ z. omega arith))
 
-pub part-alone : (k start : ℕ) (b : List ℕ) → (k ≡ 13 → ⊥) → 1 ≤ length b → length b ≤ 255 → read_of k start b ≡ partRead start (checkOf k b)
-unfolding read_of checkOf plain_of
-part-alone k start b h some fits =
-    rw (ne_eqb k 13 h, le-ltb 255 (length b) fits, ne_eqb (length b) 0 (λ z. omega arith)) (go (eqb k 0) (eqb (length_of k) 0) (not (eqb (length b) (length_of k))) (isText k && not (text_of b)))
+pub part_alone : (k start : ℕ) (b : List ℕ) → (k ≡ 13 → ⊥) → 1 ≤ length b → length b ≤ 255 → read_of k start b ≡ part_read start (check_of k b)
+unfolding read_of check_of plain_of
+part_alone k start b h some fits =
+    rw (ne_eqb k 13 h, le-ltb 255 (length b) fits, ne_eqb (length b) 0 (λ z. omega arith)) (go (eqb k 0) (eqb (length_of k) 0) (not (eqb (length b) (length_of k))) (is_text k && not (text_of b)))
   where
     at : start ≡ start + 0
     at = omega arith
 
     go : (p q r t : Bool)
-        → pick p (UpidRead.Refused Refusal.UpidLengthTypeMismatch) (pick q (UpidRead.Fine (reportedOf k)) (pick r (UpidRead.Refused (Refusal.InvalidUpidLength k (length_of k) (length b)))
-        (pick t (UpidRead.Refused (Refusal.InvalidUpidContent k (record { at = start; len = length b }))) (UpidRead.Fine (reportedOf k)))))
-        ≡ partRead start (pick p (UpidRead.Refused Refusal.UpidLengthTypeMismatch) (pick q (UpidRead.Fine (reportedOf k)) (pick r (UpidRead.Refused (Refusal.InvalidUpidLength k (length_of k) (length b)))
-        (pick t (UpidRead.Refused (Refusal.InvalidUpidContent k (record { at = 0; len = length b }))) (UpidRead.Fine (reportedOf k))))))
+        → pick p (UpidRead.Refused Refusal.UpidLengthTypeMismatch) (pick q (UpidRead.Fine (reported_of k)) (pick r (UpidRead.Refused (Refusal.InvalidUpidLength k (length_of k) (length b)))
+        (pick t (UpidRead.Refused (Refusal.InvalidUpidContent k (record { at = start; len = length b }))) (UpidRead.Fine (reported_of k)))))
+        ≡ part_read start (pick p (UpidRead.Refused Refusal.UpidLengthTypeMismatch) (pick q (UpidRead.Fine (reported_of k)) (pick r (UpidRead.Refused (Refusal.InvalidUpidLength k (length_of k) (length b)))
+        (pick t (UpidRead.Refused (Refusal.InvalidUpidContent k (record { at = 0; len = length b }))) (UpidRead.Fine (reported_of k))))))
     go true q r t = refl
     go false true r t = refl
     go false false true t = refl
@@ -75,11 +75,11 @@ part-alone k start b h some fits =
     go false false false false = refl
 
 -- an empty part is no None
-pub part-empty : (k start : ℕ) → (k ≡ 13 → ⊥) → (k ≡ 0 → read_of k start [] ≡ UpidRead.Refused Refusal.UpidLengthTypeMismatch)
+pub part_empty : (k start : ℕ) → (k ≡ 13 → ⊥) → (k ≡ 0 → read_of k start [] ≡ UpidRead.Refused Refusal.UpidLengthTypeMismatch)
     × ((k ≡ 0 → ⊥) → 1 ≤ length_of k → read_of k start [] ≡ UpidRead.Refused (Refusal.InvalidUpidLength k (length_of k) 0))
-    × ((k ≡ 0 → ⊥) → length_of k ≡ 0 → read_of k start [] ≡ UpidRead.Fine (reportedOf k))
+    × ((k ≡ 0 → ⊥) → length_of k ≡ 0 → read_of k start [] ≡ UpidRead.Fine (reported_of k))
 unfolding read_of plain_of
-part-empty k start h = (
+part_empty k start h = (
   λ z. rw (ne_eqb k 13 h, eq-eqb k 0 z),
   λ z f. rw (ne_eqb k 13 h, ne_eqb k 0 z, ne_eqb (length_of k) 0 (λ e. omega arith), ne_eqb 0 (length_of k) (λ e. omega arith)),
   λ z f. rw (ne_eqb k 13 h, ne_eqb k 0 z, eq-eqb (length_of k) 0 f),

@@ -6,58 +6,58 @@ use mathlib.Core.Path.{◌≡◌, refl, ap, sym, ◌∙◌}
 use native.Mathlib.Omega.{arith}
 use lib.ListN.{length, take, drop, get_or}
 use borrow.Author.Tests.{eqb-false}
-use Rattle.command.specs.Command.{commandOf, componentsOf, private, read, array}
-use Rattle.command.specs.Insert.{insert, active, moded, ending, timeUnless, component, blank}
-use Rattle.splice_time.specs.Break.{breakDuration}
+use Rattle.command.specs.Command.{command_of, components_of, private, read, array}
+use Rattle.command.specs.Insert.{insert, active, moded, ending, time_unless, component, blank}
+use Rattle.splice_time.specs.Break.{break_duration}
 use Rattle.command.specs.declared.SpliceCommand.{SpliceCommand}
 use Rattle.command.specs.declared.insert.SpliceDetail.{SpliceDetail}
 use Rattle.command.specs.declared.insert.SpliceMode.{SpliceMode}
 use Rattle.splice_time.specs.declared.break_duration.Break.{Break}
 use Rattle.names.specs.declared.flags.NetworkIndicator.{NetworkIndicator}
-use Rattle.canonical_form.specs.Command.{canonicalCommand}
+use Rattle.canonical_form.specs.Command.{canonical_command}
 use Rattle.descriptor.specs.Segmentation as segment
-use Rattle.canonical_form.specs.Descriptor.{canonicalUpid, canonicalSegmentation, canonicalPayload, canonicalDescriptor, canonicalFrom, canonicalLoop}
-use Rattle.canonical_form.specs.Section.{canonicalFrame, canonicalSection}
-use Rattle.crc.specs.Crc.{crcOf, crcBits, crcBit}
-use Rattle.descriptor.specs.Descriptor.{descriptorOf, isCuei, segmentationOf, activeOf, activeWith, availOf, dtmfOf, timeOf, reservedOf}
-use Rattle.descriptor.specs.Plain.{avail, dtmf, time, privateBytes}
-use Rattle.descriptor.specs.Segmentation.{deliveryRestrictions, mode, duration, writtenUpid, parts, ListedFront, front, subSegments, back, Head, head, segmentation}
-use Rattle.descriptor.specs.Full.{besideOf, besideIn, filled}
-use Rattle.header.specs.Header.{headerOf, headerRead, spliceHeader}
-use Rattle.splice_time.specs.Time.{spliceTime}
+use Rattle.canonical_form.specs.Descriptor.{canonical_upid, canonical_segmentation, canonical_payload, canonical_descriptor, canonical_from, canonical_loop}
+use Rattle.canonical_form.specs.Section.{canonical_frame, canonical_section}
+use Rattle.crc.specs.Crc.{crc_of, crc_bits, crc_bit}
+use Rattle.descriptor.specs.Descriptor.{descriptor_of, is_cuei, segmentation_of, active_of, active_with, avail_of, dtmf_of, time_of, reserved_of}
+use Rattle.descriptor.specs.Plain.{avail, dtmf, time, private_bytes}
+use Rattle.descriptor.specs.Segmentation.{delivery_restrictions, mode, duration, written_upid, parts, ListedFront, front, sub_segments, back, Head, head, segmentation}
+use Rattle.descriptor.specs.Full.{beside_of, beside_in, filled}
+use Rattle.header.specs.Header.{header_of, header_read, splice_header}
+use Rattle.splice_time.specs.Time.{splice_time}
 use Rattle.splice_time.specs.declared.SpliceTime.{SpliceTime}
-use Rattle.descriptor_loop.specs.Items.{readAt, completeAt, step_of, reading_of, itemsFrom, items_of}
+use Rattle.descriptor_loop.specs.Items.{read_at, complete_at, step_of, reading_of, items_from, items_of}
 use Rattle.canonical_form.specs.Same.Pairs.{over}
-use Rattle.names.specs.Algorithm.{algorithmOf}
+use Rattle.names.specs.Algorithm.{algorithm_of}
 use Rattle.names.specs.Command as names
-use Rattle.section.specs.Section.{commandLength, commandType, commandBytes, loopBytes, roomAfter, loopLength, loopPlace, frameIn, moved, movedRead, accepted, frame_of, sectionOf, number_of}
+use Rattle.section.specs.Section.{command_length, command_type, command_bytes, loop_bytes, room_after, loop_length, loop_place, frame_in, moved, moved_read, accepted, frame_of, section_of, number_of}
 use Rattle.section.specs.declared.Section.{Section}
 use Rattle.section.specs.declared.SectionRead.{SectionRead}
 use Rattle.table.proofs.Lists.{zero_one}
 use Rattle.table.specs.Bits.{bits_of}
 use Rattle.table.specs.Lent.{viewed}
-use Rattle.table.specs.Table.{number, bit, reserved, part, remaining, list, canonicalBy, got, parse}
+use Rattle.table.specs.Table.{number, bit, reserved, part, remaining, list, canonical_by, got, parse}
 use Rattle.theorems_reader.specs.Around.{Around}
-use Rattle.theorems_reader.specs.Identifiers.{identifiersOf}
+use Rattle.theorems_reader.specs.Identifiers.{identifiers_of}
 use Rattle.canonical_form.specs.Same.{SameSections}
 use Rattle.theorems_rows.specs.Examples.{EmptyCommand, Identified}
-use Rattle.theorems_rows.specs.Payloads.{UpidIn, writtenIn, checkedIn, Unrefused, UnrefusedAt, kindsOf}
+use Rattle.theorems_rows.specs.Payloads.{UpidIn, written_in, checked_in, Unrefused, UnrefusedAt, kinds_of}
 use Rattle.upid.specs.Cover.{All, none, more}
 use Rattle.upid.specs.declared.UpidRead.{UpidRead}
 use Rattle.upid.specs.Text.{text_of, done, step, within}
-use Rattle.upid.specs.Upid.{upidOf, checkOf, read_of, walk_of, ◌then◌, plain_of, length_of, isText, reportedOf, list_of, parts_of, listed, unlessRefused, eidrOf}
-use Rattle.theorems_rows.specs.Sections.{eighteen, nineteen, insertSection, otherInsertSection, longerInsertSection, everyIdentifier, anothersAvail, everyDescriptor, everyCommand, nullSection, programInsertSection, cancelledInsertSection, bandwidthSection, privateSection}
+use Rattle.upid.specs.Upid.{upid_of, check_of, read_of, walk_of, ◌then◌, plain_of, length_of, is_text, reported_of, list_of, parts_of, listed, unless_refused, eidr_of}
+use Rattle.theorems_rows.specs.Sections.{eighteen, nineteen, insert_section, other_insert_section, longer_insert_section, every_identifier, anothers_avail, every_descriptor, every_command, null_section, program_insert_section, cancelled_insert_section, bandwidth_section, private_section}
 
-pub eighteen-is-one : EmptyCommand eighteen × (length eighteen ≡ 18)
-unfolding crcOf crcBits crcBit commandLength
-eighteen-is-one = (record { table = refl; crc = refl; clear = refl; size = refl }, refl)
+pub eighteen_is_one : EmptyCommand eighteen × (length eighteen ≡ 18)
+unfolding crc_of crc_bits crc_bit command_length
+eighteen_is_one = (record { table = refl; crc = refl; clear = refl; size = refl }, refl)
 
-pub nineteen-is-one : EmptyCommand nineteen × (length nineteen ≡ 19)
-unfolding crcOf crcBits crcBit commandLength
-nineteen-is-one = (record { table = refl; crc = refl; clear = refl; size = refl }, refl)
+pub nineteen_is_one : EmptyCommand nineteen × (length nineteen ≡ 19)
+unfolding crc_of crc_bits crc_bit command_length
+nineteen_is_one = (record { table = refl; crc = refl; clear = refl; size = refl }, refl)
 
 -- every kind of identifier, in order
-pub every-identifier : Identified everyIdentifier (
+pub every_identifier_lem : Identified every_identifier (
     record { start = 18; len = 3; bytes = 0x01 ∷ 0x02 ∷ 0x03 ∷ [] }
     ∷ record { start = 31; len = 1; bytes = 0x34 ∷ [] }
     ∷ record { start = 46; len = 12; bytes = 0x10 ∷ 0x11 ∷ 0x12 ∷ 0x13 ∷ 0x14 ∷ 0x15 ∷ 0x16 ∷ 0x17 ∷ 0x18 ∷ 0x19 ∷ 0x1A ∷ 0x1B ∷ [] }
@@ -67,18 +67,18 @@ pub every-identifier : Identified everyIdentifier (
     ∷ record { start = 85; len = 4; bytes = 0x01 ∷ 0x02 ∷ 0xAA ∷ 0xBB ∷ [] }
     ∷ record { start = 87; len = 2; bytes = 0xAA ∷ 0xBB ∷ [] }
     ∷ record { start = 106; len = 12; bytes = 0xFF ∷ 0x41 ∷ 0x42 ∷ 0x43 ∷ 0x44 ∷ 0x31 ∷ 0x32 ∷ 0x33 ∷ 0x34 ∷ 0x35 ∷ 0x36 ∷ 0x37 ∷ [] } ∷ [])
-unfolding everyIdentifier identifiersOf sectionOf frame_of frameIn accepted movedRead moved commandLength commandType commandBytes roomAfter loopLength loopPlace crcOf crcBits crcBit headerOf headerRead spliceHeader spliceTime commandOf private items_of itemsFrom step_of completeAt readAt descriptorOf isCuei segmentationOf activeOf activeWith dtmfOf reservedOf dtmf privateBytes head front parts deliveryRestrictions mode duration writtenUpid back subSegments segmentation besideOf besideIn filled number bit reserved part remaining list viewed upidOf checkOf read_of walk_of ◌then◌ plain_of length_of isText reportedOf list_of parts_of listed unlessRefused eidrOf text_of done step within
-every-identifier = record {
+unfolding every_identifier identifiers_of section_of frame_of frame_in accepted moved_read moved command_length command_type command_bytes room_after loop_length loop_place crc_of crc_bits crc_bit header_of header_read splice_header splice_time command_of private items_of items_from step_of complete_at read_at descriptor_of is_cuei segmentation_of active_of active_with dtmf_of reserved_of dtmf private_bytes head front parts delivery_restrictions mode duration written_upid back sub_segments segmentation beside_of beside_in filled number bit reserved part remaining list viewed upid_of check_of read_of walk_of ◌then◌ plain_of length_of is_text reported_of list_of parts_of listed unless_refused eidr_of text_of done step within
+every_identifier_lem = record {
   section = record {
     header = record {
       protocol_version = 0;
       encrypted_packet = false;
-      encryption_algorithm = algorithmOf 0;
+      encryption_algorithm = algorithm_of 0;
       pts_adjustment = 0;
       cw_index = 255;
       tier = 4095;
       splice_command_length = 7;
-      splice_command_type = names.commandTypeOf 255;
+      splice_command_type = names.command_type_of 255;
     };
     command = SpliceCommand.PrivateCommand (record { identifier = 0x41424344; private_bytes = record { at = 18; len = 3 } });
     descriptors = record { at = 23; len = 98 };
@@ -90,17 +90,17 @@ every-identifier = record {
 
 -- ---- row m's inserts, as sections
 
-unfoldable pub insertReading : Section
-insertReading = record {
+unfoldable pub insert_reading : Section
+insert_reading = record {
   header = record {
     protocol_version = 0;
     encrypted_packet = false;
-    encryption_algorithm = algorithmOf 0;
+    encryption_algorithm = algorithm_of 0;
     pts_adjustment = 0;
     cw_index = 255;
     tier = 4095;
     splice_command_length = 11;
-    splice_command_type = names.commandTypeOf 5;
+    splice_command_type = names.command_type_of 5;
   };
   command = SpliceCommand.SpliceInsert (record {
     splice_event_id = 1;
@@ -118,17 +118,17 @@ insertReading = record {
   payload = record { at = 14; len = 11 };
 }
 
-pub insert-read : sectionOf insertSection ≡ SectionRead.Is insertReading
-unfolding insertReading sectionOf frame_of frameIn accepted movedRead moved commandLength commandType commandBytes roomAfter loopLength loopPlace crcOf crcBits crcBit headerOf headerRead spliceHeader commandOf insert active moded ending breakDuration timeUnless component number bit reserved part remaining list
-insert-read = refl
+pub insert_read_lem : section_of insert_section ≡ SectionRead.Is insert_reading
+unfolding insert_reading section_of frame_of frame_in accepted moved_read moved command_length command_type command_bytes room_after loop_length loop_place crc_of crc_bits crc_bit header_of header_read splice_header command_of insert active moded ending break_duration time_unless component number bit reserved part remaining list
+insert_read_lem = refl
 
-pub other-insert-read : sectionOf otherInsertSection ≡ SectionRead.Is insertReading
-unfolding insertReading sectionOf frame_of frameIn accepted movedRead moved commandLength commandType commandBytes roomAfter loopLength loopPlace crcOf crcBits crcBit headerOf headerRead spliceHeader commandOf insert active moded ending breakDuration timeUnless component number bit reserved part remaining list
-other-insert-read = refl
+pub other_insert_read : section_of other_insert_section ≡ SectionRead.Is insert_reading
+unfolding insert_reading section_of frame_of frame_in accepted moved_read moved command_length command_type command_bytes room_after loop_length loop_place crc_of crc_bits crc_bit header_of header_read splice_header command_of insert active moded ending break_duration time_unless component number bit reserved part remaining list
+other_insert_read = refl
 
-pub same-insert : SameSections insertSection insertReading otherInsertSection insertReading
-unfolding insertReading items_of itemsFrom viewed
-same-insert = record {
+pub same_insert : SameSections insert_section insert_reading other_insert_section insert_reading
+unfolding insert_reading items_of items_from viewed
+same_insert = record {
   headers = record { version = refl; encrypted = refl; algorithm = refl; adjustment = refl; index = refl; tiers = refl };
   commands = refl;
   components = refl;
@@ -136,117 +136,117 @@ same-insert = record {
   items = over;
 }
 
-pub other-bytes : insertSection ≡ otherInsertSection → ⊥
-other-bytes e = eqb-false 0x0F 0x1F refl (ap (λ (l : List ℕ). get_or l 19 0) e)
+pub other_bytes_lem : insert_section ≡ other_insert_section → ⊥
+other_bytes_lem e = eqb-false 0x0F 0x1F refl (ap (λ (l : List ℕ). get_or l 19 0) e)
 
 -- ---- another section_length
 
-abbrev pub insertOthers : List ℕ
-insertOthers = take 24 (drop 3 insertSection)
+abbrev pub insert_others : List ℕ
+insert_others = take 24 (drop 3 insert_section)
 
-pub its-length : Around 0xFC insertOthers insertSection
-unfolding crcOf crcBits crcBit
-its-length = record { byte-1 = 0x30; byte-2 = 0x1C; crc = drop 27 insertSection; is = refl; four = refl; right = refl }
+pub its_length : Around 0xFC insert_others insert_section
+unfolding crc_of crc_bits crc_bit
+its_length = record { byte_1 = 0x30; byte_2 = 0x1C; crc = drop 27 insert_section; is = refl; four = refl; right = refl }
 
-pub longer : Around 0xFC insertOthers longerInsertSection
-unfolding crcOf crcBits crcBit
-longer = record { byte-1 = 0x30; byte-2 = 0x1D; crc = drop 27 longerInsertSection; is = refl; four = refl; right = refl }
+pub longer : Around 0xFC insert_others longer_insert_section
+unfolding crc_of crc_bits crc_bit
+longer = record { byte_1 = 0x30; byte_2 = 0x1D; crc = drop 27 longer_insert_section; is = refl; four = refl; right = refl }
 
-pub another-length : insertSection ≡ longerInsertSection → ⊥
-another-length e = eqb-false 0x1C 0x1D refl (ap (λ (l : List ℕ). get_or l 2 0) e)
+pub another_length : insert_section ≡ longer_insert_section → ⊥
+another_length e = eqb-false 0x1C 0x1D refl (ap (λ (l : List ℕ). get_or l 2 0) e)
 
 -- ---- a canonical section with every kind of descriptor
-pub every-descriptor-canonical : canonicalSection everyDescriptor ≡ true
-unfolding everyDescriptor canonicalSection canonicalFrame canonicalCommand canonicalLoop canonicalFrom canonicalDescriptor canonicalPayload canonicalSegmentation canonicalBy canonicalUpid number_of sectionOf frame_of frameIn accepted movedRead moved commandLength commandType commandBytes roomAfter loopLength loopPlace crcOf crcBits crcBit headerOf headerRead spliceHeader spliceTime commandOf insert active moded ending breakDuration timeUnless component isCuei avail dtmf time privateBytes segmentation head front parts deliveryRestrictions mode segment.component duration writtenUpid back subSegments number bit reserved part remaining list viewed checkOf read_of walk_of ◌then◌ plain_of length_of isText reportedOf text_of done step within
-every-descriptor-canonical = refl
+pub every_descriptor_canonical : canonical_section every_descriptor ≡ true
+unfolding every_descriptor canonical_section canonical_frame canonical_command canonical_loop canonical_from canonical_descriptor canonical_payload canonical_segmentation canonical_by canonical_upid number_of section_of frame_of frame_in accepted moved_read moved command_length command_type command_bytes room_after loop_length loop_place crc_of crc_bits crc_bit header_of header_read splice_header splice_time command_of insert active moded ending break_duration time_unless component is_cuei avail dtmf time private_bytes segmentation head front parts delivery_restrictions mode segment.component duration written_upid back sub_segments number bit reserved part remaining list viewed check_of read_of walk_of ◌then◌ plain_of length_of is_text reported_of text_of done step within
+every_descriptor_canonical = refl
 
-pub every-kind : kindsOf everyDescriptor ≡ 0 ∷ 1 ∷ 2 ∷ 2 ∷ 3 ∷ 4 ∷ []
-unfolding everyDescriptor commandLength commandType commandBytes roomAfter loopLength loopPlace items_of itemsFrom step_of completeAt readAt descriptorOf isCuei availOf timeOf segmentationOf activeOf activeWith dtmfOf reservedOf avail dtmf time privateBytes segmentation head front parts deliveryRestrictions mode segment.component duration writtenUpid back subSegments number bit reserved part remaining list viewed checkOf read_of walk_of ◌then◌ plain_of length_of isText reportedOf text_of done step within
-every-kind = refl
+pub every_kind : kinds_of every_descriptor ≡ 0 ∷ 1 ∷ 2 ∷ 2 ∷ 3 ∷ 4 ∷ []
+unfolding every_descriptor command_length command_type command_bytes room_after loop_length loop_place items_of items_from step_of complete_at read_at descriptor_of is_cuei avail_of time_of segmentation_of active_of active_with dtmf_of reserved_of avail dtmf time private_bytes segmentation head front parts delivery_restrictions mode segment.component duration written_upid back sub_segments number bit reserved part remaining list viewed check_of read_of walk_of ◌then◌ plain_of length_of is_text reported_of text_of done step within
+every_kind = refl
 
-pub its-insert : (commandType everyDescriptor ≡ 0x05)
-    × (take 2 (componentsOf (commandBytes everyDescriptor)) ≡ record { component_tag = 1; splice_time = SpliceTime.At 90000 } ∷ record { component_tag = 2; splice_time = SpliceTime.At 90001 } ∷ [])
-unfolding everyDescriptor commandLength commandType commandBytes roomAfter componentsOf array spliceTime insert active moded ending breakDuration timeUnless component number bit reserved part remaining list viewed
-its-insert = (refl, refl)
+pub its_insert : (command_type every_descriptor ≡ 0x05)
+    × (take 2 (components_of (command_bytes every_descriptor)) ≡ record { component_tag = 1; splice_time = SpliceTime.At 90000 } ∷ record { component_tag = 2; splice_time = SpliceTime.At 90001 } ∷ [])
+unfolding every_descriptor command_length command_type command_bytes room_after components_of array splice_time insert active moded ending break_duration time_unless component number bit reserved part remaining list viewed
+its_insert = (refl, refl)
 
-pub its-components : take 1 (reading_of (loopBytes everyDescriptor) 19).beside.components ≡ record { component_tag = 5; pts_offset = 7 } ∷ []
-unfolding everyDescriptor reading_of commandLength commandType commandBytes roomAfter loopLength loopPlace step_of completeAt readAt descriptorOf isCuei segmentationOf activeOf activeWith besideOf besideIn filled segmentation head front parts deliveryRestrictions mode segment.component duration writtenUpid back subSegments number bit reserved part remaining list viewed checkOf read_of walk_of ◌then◌ plain_of length_of isText reportedOf text_of done step within eidrOf
-its-components = refl
+pub its_components : take 1 (reading_of (loop_bytes every_descriptor) 19).beside.components ≡ record { component_tag = 5; pts_offset = 7 } ∷ []
+unfolding every_descriptor reading_of command_length command_type command_bytes room_after loop_length loop_place step_of complete_at read_at descriptor_of is_cuei segmentation_of active_of active_with beside_of beside_in filled segmentation head front parts delivery_restrictions mode segment.component duration written_upid back sub_segments number bit reserved part remaining list viewed check_of read_of walk_of ◌then◌ plain_of length_of is_text reported_of text_of done step within eidr_of
+its_components = refl
 
 -- nothing refuses them: avail, DTMF, segmentation, a cancelled one, time, reserved
 at_least : (n m : ℕ) → m ≡ n → n ≤ m
 at_least n m e = omega (arith, e)
 
-pub unrefused-avail : UnrefusedAt (loopBytes everyDescriptor) 0 0
-unfolding everyDescriptor commandLength loopLength loopPlace viewed
-unrefused-avail = Unrefused.an-avail refl refl (at_least 4 _ refl)
+pub unrefused_avail : UnrefusedAt (loop_bytes every_descriptor) 0 0
+unfolding every_descriptor command_length loop_length loop_place viewed
+unrefused_avail = Unrefused.an_avail refl refl (at_least 4 _ refl)
 
-pub unrefused-dtmf : UnrefusedAt (loopBytes everyDescriptor) 10 1
-unfolding everyDescriptor commandLength loopLength loopPlace viewed dtmf number reserved part
-unrefused-dtmf = Unrefused.a-dtmf refl refl (record { preroll = 0xB1; dtmf_chars = record { at = 2; len = 1 } }) 24 refl
+pub unrefused_dtmf : UnrefusedAt (loop_bytes every_descriptor) 10 1
+unfolding every_descriptor command_length loop_length loop_place viewed dtmf number reserved part
+unrefused_dtmf = Unrefused.a_dtmf refl refl (record { preroll = 0xB1; dtmf_chars = record { at = 2; len = 1 } }) 24 refl
 
 -- a UPID that its own rules read, where the tables up to it read these
 module _ (p : List ℕ) (h : Head) (m : ℕ) (heads : parse head (bits_of p) 0 ≡ got h m) where
-  upid-read : (f : ListedFront) (n k : ℕ) → parse front (bits_of p) m ≡ got f n → checkedIn p f.front.segmentation_upid ≡ UpidRead.Fine k
-      → (u : UpidIn p) → (k : ℕ) × (checkedIn p (writtenIn u) ≡ UpidRead.Fine k)
-  upid-read f n k fronts fine u =
+  upid_read_lem : (f : ListedFront) (n k : ℕ) → parse front (bits_of p) m ≡ got f n → checked_in p f.front.segmentation_upid ≡ UpidRead.Fine k
+      → (u : UpidIn p) → (k : ℕ) × (checked_in p (written_in u) ≡ UpidRead.Fine k)
+  upid_read_lem f n k fronts fine u =
       let z : got h m ≡ got u.first u.seam = sym heads ∙ u.heads in
       let seam : m ≡ u.seam = cc in
       let w : got f n ≡ got u.fore u.end = sym fronts ∙ ap (parse front (bits_of p)) seam ∙ u.fronts in
       let same : f ≡ u.fore = cc in
-      (k, ap (λ (x : ListedFront). checkedIn p x.front.segmentation_upid) (sym same) ∙ fine)
+      (k, ap (λ (x : ListedFront). checked_in p x.front.segmentation_upid) (sym same) ∙ fine)
 
   -- a cancelled one has none
-  no-upid : h.cancel ≡ true → (u : UpidIn p) → ⊥
-  no-upid on u =
+  no_upid : h.cancel ≡ true → (u : UpidIn p) → ⊥
+  no_upid on u =
       let z : got h m ≡ got u.first u.seam = sym heads ∙ u.heads in
       let same : h ≡ u.first = cc in
       let b : true ≡ false = sym on ∙ ap (λ (x : Head). x.cancel) same ∙ u.active in
       zero_one cc
 
-pub unrefused-segmentation : UnrefusedAt (loopBytes everyDescriptor) 19 2
-unfolding everyDescriptor commandLength loopLength loopPlace viewed segmentation head front parts deliveryRestrictions mode segment.component duration writtenUpid back subSegments number bit reserved part remaining list checkOf read_of plain_of length_of isText reportedOf
-unrefused-segmentation = Unrefused.a-segmentation refl refl _ _ refl (upid-read _ _ _ refl _ _ _ refl refl)
+pub unrefused_segmentation : UnrefusedAt (loop_bytes every_descriptor) 19 2
+unfolding every_descriptor command_length loop_length loop_place viewed segmentation head front parts delivery_restrictions mode segment.component duration written_upid back sub_segments number bit reserved part remaining list check_of read_of plain_of length_of is_text reported_of
+unrefused_segmentation = Unrefused.a_segmentation refl refl _ _ refl (upid_read_lem _ _ _ refl _ _ _ refl refl)
 
-pub unrefused-cancelled : UnrefusedAt (loopBytes everyDescriptor) 58 2
-unfolding everyDescriptor commandLength loopLength loopPlace viewed segmentation head front number bit reserved
-unrefused-cancelled = Unrefused.a-segmentation refl refl _ _ refl (λ u. absurd (no-upid _ _ _ refl refl u))
+pub unrefused_cancelled : UnrefusedAt (loop_bytes every_descriptor) 58 2
+unfolding every_descriptor command_length loop_length loop_place viewed segmentation head front number bit reserved
+unrefused_cancelled = Unrefused.a_segmentation refl refl _ _ refl (λ u. absurd (no_upid _ _ _ refl refl u))
 
-pub unrefused-time : UnrefusedAt (loopBytes everyDescriptor) 69 3
-unfolding everyDescriptor commandLength loopLength loopPlace viewed
-unrefused-time = Unrefused.a-time refl refl (at_least 12 _ refl)
+pub unrefused_time : UnrefusedAt (loop_bytes every_descriptor) 69 3
+unfolding every_descriptor command_length loop_length loop_place viewed
+unrefused_time = Unrefused.a_time refl refl (at_least 12 _ refl)
 
-pub unrefused-by-tag : UnrefusedAt (loopBytes everyDescriptor) 87 4
-unfolding everyDescriptor commandLength loopLength loopPlace viewed
-unrefused-by-tag = Unrefused.another-tag (omega arith)
+pub unrefused_by_tag : UnrefusedAt (loop_bytes every_descriptor) 87 4
+unfolding every_descriptor command_length loop_length loop_place viewed
+unrefused_by_tag = Unrefused.another_tag (omega arith)
 
-pub unrefused-by-identifier : UnrefusedAt anothersAvail 0 4
-unrefused-by-identifier = Unrefused.another-identifier 0x41 0x42 0x43 0x44 refl (λ a b c d. eqb-false 0x41 0x43 refl a)
+pub unrefused_by_identifier : UnrefusedAt anothers_avail 0 4
+unrefused_by_identifier = Unrefused.another_identifier 0x41 0x42 0x43 0x44 refl (λ a b c d. eqb-false 0x41 0x43 refl a)
 
 -- ---- and with every other command
 
 abbrev CanonicalWith : List ℕ → ℕ → Type 0
-CanonicalWith s type = (canonicalSection s ≡ true) × (commandType s ≡ type)
+CanonicalWith s type = (canonical_section s ≡ true) × (command_type s ≡ type)
 
-null-canonical : CanonicalWith nullSection 0x00
-unfolding canonicalSection canonicalFrame canonicalCommand canonicalLoop canonicalFrom canonicalBy number_of sectionOf frame_of frameIn accepted movedRead moved commandLength commandType commandBytes roomAfter loopLength loopPlace crcOf crcBits crcBit headerOf headerRead spliceHeader spliceTime commandOf private insert active moded ending breakDuration timeUnless component number bit reserved part remaining list viewed
-null-canonical = (refl, refl)
+null_canonical : CanonicalWith null_section 0x00
+unfolding canonical_section canonical_frame canonical_command canonical_loop canonical_from canonical_by number_of section_of frame_of frame_in accepted moved_read moved command_length command_type command_bytes room_after loop_length loop_place crc_of crc_bits crc_bit header_of header_read splice_header splice_time command_of private insert active moded ending break_duration time_unless component number bit reserved part remaining list viewed
+null_canonical = (refl, refl)
 
-program-insert-canonical : CanonicalWith programInsertSection 0x05
-unfolding canonicalSection canonicalFrame canonicalCommand canonicalLoop canonicalFrom canonicalBy number_of sectionOf frame_of frameIn accepted movedRead moved commandLength commandType commandBytes roomAfter loopLength loopPlace crcOf crcBits crcBit headerOf headerRead spliceHeader spliceTime commandOf private insert active moded ending breakDuration timeUnless component number bit reserved part remaining list viewed
-program-insert-canonical = (refl, refl)
+program_insert_canonical : CanonicalWith program_insert_section 0x05
+unfolding canonical_section canonical_frame canonical_command canonical_loop canonical_from canonical_by number_of section_of frame_of frame_in accepted moved_read moved command_length command_type command_bytes room_after loop_length loop_place crc_of crc_bits crc_bit header_of header_read splice_header splice_time command_of private insert active moded ending break_duration time_unless component number bit reserved part remaining list viewed
+program_insert_canonical = (refl, refl)
 
-cancelled-insert-canonical : CanonicalWith cancelledInsertSection 0x05
-unfolding canonicalSection canonicalFrame canonicalCommand canonicalLoop canonicalFrom canonicalBy number_of sectionOf frame_of frameIn accepted movedRead moved commandLength commandType commandBytes roomAfter loopLength loopPlace crcOf crcBits crcBit headerOf headerRead spliceHeader spliceTime commandOf private insert active moded ending breakDuration timeUnless component number bit reserved part remaining list viewed
-cancelled-insert-canonical = (refl, refl)
+cancelled_insert_canonical : CanonicalWith cancelled_insert_section 0x05
+unfolding canonical_section canonical_frame canonical_command canonical_loop canonical_from canonical_by number_of section_of frame_of frame_in accepted moved_read moved command_length command_type command_bytes room_after loop_length loop_place crc_of crc_bits crc_bit header_of header_read splice_header splice_time command_of private insert active moded ending break_duration time_unless component number bit reserved part remaining list viewed
+cancelled_insert_canonical = (refl, refl)
 
-bandwidth-canonical : CanonicalWith bandwidthSection 0x07
-unfolding canonicalSection canonicalFrame canonicalCommand canonicalLoop canonicalFrom canonicalBy number_of sectionOf frame_of frameIn accepted movedRead moved commandLength commandType commandBytes roomAfter loopLength loopPlace crcOf crcBits crcBit headerOf headerRead spliceHeader spliceTime commandOf private insert active moded ending breakDuration timeUnless component number bit reserved part remaining list viewed
-bandwidth-canonical = (refl, refl)
+bandwidth_canonical : CanonicalWith bandwidth_section 0x07
+unfolding canonical_section canonical_frame canonical_command canonical_loop canonical_from canonical_by number_of section_of frame_of frame_in accepted moved_read moved command_length command_type command_bytes room_after loop_length loop_place crc_of crc_bits crc_bit header_of header_read splice_header splice_time command_of private insert active moded ending break_duration time_unless component number bit reserved part remaining list viewed
+bandwidth_canonical = (refl, refl)
 
-private-canonical : CanonicalWith privateSection 0xFF
-unfolding canonicalSection canonicalFrame canonicalCommand canonicalLoop canonicalFrom canonicalBy number_of sectionOf frame_of frameIn accepted movedRead moved commandLength commandType commandBytes roomAfter loopLength loopPlace crcOf crcBits crcBit headerOf headerRead spliceHeader spliceTime commandOf private insert active moded ending breakDuration timeUnless component number bit reserved part remaining list viewed
-private-canonical = (refl, refl)
+private_canonical : CanonicalWith private_section 0xFF
+unfolding canonical_section canonical_frame canonical_command canonical_loop canonical_from canonical_by number_of section_of frame_of frame_in accepted moved_read moved command_length command_type command_bytes room_after loop_length loop_place crc_of crc_bits crc_bit header_of header_read splice_header splice_time command_of private insert active moded ending break_duration time_unless component number bit reserved part remaining list viewed
+private_canonical = (refl, refl)
 
-pub every-command-canonical : All (λ (c : List ℕ × ℕ). (canonicalSection c.0 ≡ true) × (commandType c.0 ≡ c.1)) everyCommand
-every-command-canonical = more null-canonical (more program-insert-canonical (more cancelled-insert-canonical (more bandwidth-canonical (more private-canonical none))))
+pub every_command_canonical : All (λ (c : List ℕ × ℕ). (canonical_section c.0 ≡ true) × (command_type c.0 ≡ c.1)) every_command
+every_command_canonical = more null_canonical (more program_insert_canonical (more cancelled_insert_canonical (more bandwidth_canonical (more private_canonical none))))

@@ -1,23 +1,23 @@
 -- Sections that are worked out: document 01's of 18, 19 and 20 bytes, and one with a MID of two identifiers, of 8 bytes and
 -- of 12.
 use Rattle.std.specs.Prelude.{ℕ, List, [], ◌∷◌, ◌++◌, ◌≡◌, get_or}
-use Rattle.crc.specs.Crc.{crcOf}
-use Rattle.section.specs.Section.{commandLength, sectionOf}
+use Rattle.crc.specs.Crc.{crc_of}
+use Rattle.section.specs.Section.{command_length, section_of}
 use Rattle.section.specs.declared.Section.{Section}
 use Rattle.section.specs.declared.SectionRead.{SectionRead}
 use Rattle.table.specs.Bits.{bits_of, field}
-use Rattle.theorems_reader.specs.Identifiers.{Identifier, identifiersOf}
+use Rattle.theorems_reader.specs.Identifiers.{Identifier, identifiers_of}
 
 -- "Sections with right CRC and command length 0", which begin with 0xFC and are not encrypted
 pub record EmptyCommand (s : List ℕ) : Type 0 where
   pub table : get_or s 0 0 ≡ 0xFC
-  pub crc : crcOf s ≡ 0
+  pub crc : crc_of s ≡ 0
   pub clear : field (bits_of s) 32 1 ≡ 0
-  pub size : commandLength s ≡ 0
+  pub size : command_length s ≡ 0
 
 -- a null: 20 bytes, loop length 0
-abbrev pub spliceNull : List ℕ
-spliceNull =
+abbrev pub splice_null : List ℕ
+splice_null =
     0xFC ∷ 0x30 ∷ 0x11 ∷ 0x00 ∷ 0x00 ∷ 0x00 ∷ 0x00 ∷ 0x00 ∷ 0x00 ∷ 0x00 ∷ 0xFF ∷ 0xF0 ∷ 0x00 ∷ 0x00 ∷ 0x00 ∷ 0x00 ∷ 0x7A ∷ 0x4F ∷ 0xBF ∷ 0xFF ∷ []
 
 -- a time signal with a segmentation descriptor, whose MID has a part of type 8 with 8 bytes and one of type 3 with 12
@@ -30,8 +30,8 @@ twelve = 0x41 ∷ 0x42 ∷ 0x43 ∷ 0x44 ∷ 0x31 ∷ 0x32 ∷ 0x33 ∷ 0x34 ∷
 abbrev pub both : List ℕ
 both = 0x08 ∷ 0x08 ∷ (eight ++ (0x03 ∷ 0x0C ∷ twelve))
 
-unfoldable pub eightAndTwelve : List ℕ
-eightAndTwelve =
+unfoldable pub eight_and_twelve : List ℕ
+eight_and_twelve =
     -- the common header, the splice header, and a time of 0
     0xFC ∷ 0x30 ∷ 0x3F ∷ 0x00 ∷ 0x00 ∷ 0x00 ∷ 0x00 ∷ 0x00 ∷ 0x00 ∷ 0xFF ∷ 0xFF ∷ 0xF0 ∷ 0x05 ∷ 0x06 ∷ 0xFE ∷ 0x00 ∷ 0x00 ∷ 0x00 ∷ 0x00
     -- a loop of 41 bytes: one descriptor, with tag 2, L 39 and "CUEI"
@@ -44,5 +44,5 @@ eightAndTwelve =
 -- a section is accepted, and has these identifiers
 pub record Identified (s : List ℕ) (ids : List Identifier) : Type 0 where
   pub section : Section
-  pub accepted : sectionOf s ≡ SectionRead.Is section
-  pub identified : identifiersOf s section ≡ ids
+  pub accepted : section_of s ≡ SectionRead.Is section
+  pub identified : identifiers_of s section ≡ ids

@@ -1,9 +1,9 @@
 -- What is read of a descriptor's payload, by the table of its kind and the rules of its UPID: "Fields are taken in layout order and the first fault stands".
 use Rattle.std.specs.Prelude.{ℕ, ◌+◌, ◌-◌, ◌≤◌, ◌<◌, false, List, [], ◌∷◌, map, ◌≡◌, length, take, drop, get_or}
-use Rattle.descriptor.specs.Descriptor.{cuei, movedRefusal, reportedUpid}
+use Rattle.descriptor.specs.Descriptor.{cuei, moved_refusal, reported_upid}
 use Rattle.descriptor.specs.Plain.{dtmf}
 use Rattle.descriptor.specs.Segmentation as table
-use Rattle.descriptor.specs.Segmentation.{ListedFront, Head, head, front, segmentation, withUpid}
+use Rattle.descriptor.specs.Segmentation.{ListedFront, Head, head, front, segmentation, with_upid}
 use Rattle.descriptor.specs.declared.Descriptor.{Descriptor}
 use Rattle.descriptor.specs.declared.DescriptorRead.{DescriptorRead}
 use Rattle.descriptor.specs.declared.plain.DTMFDescriptor.{DTMFDescriptor}
@@ -12,11 +12,11 @@ use Rattle.descriptor.specs.declared.segmentation.SegmentationDetail.{Segmentati
 use Rattle.descriptor.specs.declared.segmentation.SegmentationUpid.{SegmentationUpid}
 use Rattle.descriptor_loop.specs.Items.{items_of}
 use Rattle.descriptor_loop.specs.declared.Item.{Item}
-use Rattle.section.specs.Section.{loopBytes}
+use Rattle.section.specs.Section.{loop_bytes}
 use Rattle.table.specs.Bits.{bits_of}
 use Rattle.table.specs.Lent.{viewed}
 use Rattle.table.specs.Table.{got, short, parse}
-use Rattle.upid.specs.Upid.{checkOf, read_of}
+use Rattle.upid.specs.Upid.{check_of, read_of}
 use Rattle.upid.specs.declared.Refusal.{Refusal}
 use Rattle.upid.specs.declared.UpidRead.{UpidRead}
 use Rattle.theorems_rows.specs.Refusals.{kind_of}
@@ -34,39 +34,39 @@ pub record UpidIn (s : List ℕ) : Type 0 where
   pub fronts : parse front (bits_of s) seam ≡ got fore end
 
 -- as it is written, and as its own rules read it
-abbrev pub writtenIn : {s : List ℕ} → UpidIn s → SegmentationUpid
-writtenIn u = u.fore.front.segmentation_upid
+abbrev pub written_in : {s : List ℕ} → UpidIn s → SegmentationUpid
+written_in u = u.fore.front.segmentation_upid
 
-abbrev pub checkedIn : (s : List ℕ) → SegmentationUpid → UpidRead
-checkedIn s u = checkOf u.upid_type (viewed s u.bytes)
+abbrev pub checked_in : (s : List ℕ) → SegmentationUpid → UpidRead
+checked_in s u = check_of u.upid_type (viewed s u.bytes)
 
 -- the four ways in which it is read or refused
 pub data SegmentationReads (s : List ℕ) : DescriptorRead → Type 0 where
   -- 21: its table lacks bytes of a field, whose values these are, and no UPID that is refused stands before
-  lacks : (expected actual : ℕ) → parse segmentation (bits_of s) 0 ≡ short expected actual → ((u : UpidIn s) → (k : ℕ) × (checkedIn s (writtenIn u) ≡ UpidRead.Fine k))
+  lacks : (expected actual : ℕ) → parse segmentation (bits_of s) 0 ≡ short expected actual → ((u : UpidIn s) → (k : ℕ) × (checked_in s (written_in u) ≡ UpidRead.Fine k))
       → SegmentationReads s (DescriptorRead.Refused (Refusal.NotEnoughData expected actual))
   -- 21 and 23 to 25: its UPID is there, and is refused by its own rules, whatever is behind it
-  upid : (u : UpidIn s) (r : Refusal) → checkedIn s (writtenIn u) ≡ UpidRead.Refused r → SegmentationReads s (DescriptorRead.Refused (movedRefusal (writtenIn u).bytes.at r))
+  upid : (u : UpidIn s) (r : Refusal) → checked_in s (written_in u) ≡ UpidRead.Refused r → SegmentationReads s (DescriptorRead.Refused (moved_refusal (written_in u).bytes.at r))
   -- it is cancelled
   cancelled : (x : table.Segmentation) (end : ℕ) → parse segmentation (bits_of s) 0 ≡ got x end → x.descriptor.descriptor_detail ≡ DescriptorDetail.Cancel
       → SegmentationReads s (DescriptorRead.Is (Descriptor.Segmentation (record { segmentation_event_id = x.descriptor.segmentation_event_id; descriptor_detail = DescriptorDetail.Cancel })))
   -- else it is what the table reads, with its UPID as the UPID's rules report it
   complete : (x : table.Segmentation) (end : ℕ) (i : SegmentationDetail) (k : ℕ) → parse segmentation (bits_of s) 0 ≡ got x end → x.descriptor.descriptor_detail ≡ DescriptorDetail.Active i
-      → checkedIn s i.segmentation_upid ≡ UpidRead.Fine k
+      → checked_in s i.segmentation_upid ≡ UpidRead.Fine k
       → SegmentationReads s (DescriptorRead.Is (Descriptor.Segmentation (record {
         segmentation_event_id = x.descriptor.segmentation_event_id;
-        descriptor_detail = DescriptorDetail.Active (withUpid i (reportedUpid k i.segmentation_upid.bytes));
+        descriptor_detail = DescriptorDetail.Active (with_upid i (reported_upid k i.segmentation_upid.bytes));
       })))
 
 -- ---- any payload p, under a tag and an identifier that say its kind (`kind_of`): nothing refuses it
 pub data Unrefused (tag : ℕ) (id p : List ℕ) : ℕ → Type 0 where
-  an-avail : tag ≡ 0 → id ≡ cuei → 4 ≤ length p → Unrefused tag id p 0
-  a-dtmf : tag ≡ 1 → id ≡ cuei → (x : DTMFDescriptor) (end : ℕ) → parse dtmf (bits_of p) 0 ≡ got x end → Unrefused tag id p 1
-  a-segmentation : tag ≡ 2 → id ≡ cuei → (x : table.Segmentation) (end : ℕ) → parse segmentation (bits_of p) 0 ≡ got x end
-      → ((u : UpidIn p) → (k : ℕ) × (checkedIn p (writtenIn u) ≡ UpidRead.Fine k)) → Unrefused tag id p 2
-  a-time : tag ≡ 3 → id ≡ cuei → 12 ≤ length p → Unrefused tag id p 3
-  another-tag : 3 < tag → Unrefused tag id p 4
-  another-identifier : (a b c d : ℕ) → id ≡ a ∷ b ∷ c ∷ d ∷ [] → (a ≡ 0x43 → b ≡ 0x55 → c ≡ 0x45 → d ≡ 0x49 → ⊥) → Unrefused tag id p 4
+  an_avail : tag ≡ 0 → id ≡ cuei → 4 ≤ length p → Unrefused tag id p 0
+  a_dtmf : tag ≡ 1 → id ≡ cuei → (x : DTMFDescriptor) (end : ℕ) → parse dtmf (bits_of p) 0 ≡ got x end → Unrefused tag id p 1
+  a_segmentation : tag ≡ 2 → id ≡ cuei → (x : table.Segmentation) (end : ℕ) → parse segmentation (bits_of p) 0 ≡ got x end
+      → ((u : UpidIn p) → (k : ℕ) × (checked_in p (written_in u) ≡ UpidRead.Fine k)) → Unrefused tag id p 2
+  a_time : tag ≡ 3 → id ≡ cuei → 12 ≤ length p → Unrefused tag id p 3
+  another_tag : 3 < tag → Unrefused tag id p 4
+  another_identifier : (a b c d : ℕ) → id ≡ a ∷ b ∷ c ∷ d ∷ [] → (a ≡ 0x43 → b ≡ 0x55 → c ≡ 0x45 → d ≡ 0x49 → ⊥) → Unrefused tag id p 4
 
 -- an item at an offset of a loop: its payload lies behind tag, length and identifier
 abbrev pub UnrefusedAt : List ℕ → ℕ → ℕ → Type 0
@@ -85,15 +85,15 @@ pub record MidReads (start : ℕ) : Type 0 where
   pub next : (k n q : ℕ) (rest : List ℕ) → n ≤ length rest → read_of k (start + 2) (take n rest) ≡ UpidRead.Fine q → read_of 13 start (k ∷ n ∷ rest) ≡ read_of 13 (start + (2 + n)) (drop n rest)
 
 -- a part that starts there: as the UPID alone, the text of 24 counted from the top
-abbrev pub partRead : ℕ → UpidRead → UpidRead
-partRead start (UpidRead.Fine k) = UpidRead.Fine k
-partRead start (UpidRead.Refused r) = UpidRead.Refused (movedRefusal start r)
+abbrev pub part_read : ℕ → UpidRead → UpidRead
+part_read start (UpidRead.Fine k) = UpidRead.Fine k
+part_read start (UpidRead.Refused r) = UpidRead.Refused (moved_refusal start r)
 
 -- ---- the kinds of a section's items: 5 the end, 6 refused
-abbrev pub kindIn : Item → ℕ
-kindIn Item.End = 5
-kindIn (Item.Refused r) = 6
-kindIn (Item.Is d) = kind_of d
+abbrev pub kind_in : Item → ℕ
+kind_in Item.End = 5
+kind_in (Item.Refused r) = 6
+kind_in (Item.Is d) = kind_of d
 
-abbrev pub kindsOf : List ℕ → List ℕ
-kindsOf s = map (λ y. kindIn y.step.item) (items_of (loopBytes s))
+abbrev pub kinds_of : List ℕ → List ℕ
+kinds_of s = map (λ y. kind_in y.step.item) (items_of (loop_bytes s))

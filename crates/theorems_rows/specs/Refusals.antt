@@ -19,15 +19,15 @@ pub record StepRefused (s : Step) (n : ℕ) (values : List ℕ) (next : ℕ) : T
   pub goes : s.next ≡ next
 
 -- where a loop ends, each rule with its refusal: "R from 1 to 5: refusal 21 (2, 0)", "L + 2 > R: 21 (L + 2, 0)", "L = 255 that fits: 22"
-abbrev pub endNumber : {rest : List ℕ} → Ends rest → ℕ
-endNumber (Ends.few a b) = 21
-endNumber (Ends.over a b) = 21
-endNumber (Ends.full a b) = 22
+abbrev pub end_number : {rest : List ℕ} → Ends rest → ℕ
+end_number (Ends.few a b) = 21
+end_number (Ends.over a b) = 21
+end_number (Ends.full a b) = 22
 
-abbrev pub endValues : {rest : List ℕ} → Ends rest → List ℕ
-endValues (Ends.few a b) = 2 ∷ 0 ∷ []
-endValues {rest} (Ends.over a b) = (get_or rest 1 0 + 2) ∷ 0 ∷ []
-endValues (Ends.full a b) = []
+abbrev pub end_values : {rest : List ℕ} → Ends rest → List ℕ
+end_values (Ends.few a b) = 2 ∷ 0 ∷ []
+end_values {rest} (Ends.over a b) = (get_or rest 1 0 + 2) ∷ 0 ∷ []
+end_values (Ends.full a b) = []
 
 -- a UPID is refused with this number and these values
 pub record UpidRefused (r : UpidRead) (n : ℕ) (values : List ℕ) : Type 0 where
@@ -53,5 +53,5 @@ abbrev pub texts : List (ℕ × ℕ)
 texts = (2, 8) ∷ (3, 12) ∷ (7, 12) ∷ []
 
 -- the others, with the type that each reports: "Types 5 and 6 are one kind .. both report type 6"
-abbrev pub plainLengths : List (ℕ × (ℕ × ℕ))
-plainLengths = (4, (32, 4)) ∷ (5, (8, 6)) ∷ (6, (12, 6)) ∷ (8, (8, 8)) ∷ (10, (12, 10)) ∷ []
+abbrev pub plain_lengths : List (ℕ × (ℕ × ℕ))
+plain_lengths = (4, (32, 4)) ∷ (5, (8, 6)) ∷ (6, (12, 6)) ∷ (8, (8, 8)) ∷ (10, (12, 10)) ∷ []

@@ -53,21 +53,21 @@ section11 =
     ∷ 0xC8 ∷ 0x36 ∷ 0xF8 ∷ 0x6C ∷ []
 
 -- ---- items: a descriptor of "CUEI" with a tag and a payload
-abbrev pub cueiItem : ℕ → List ℕ → List ℕ
-cueiItem tag payload = tag ∷ ((4 + length payload) ∷ (0x43 ∷ 0x55 ∷ 0x45 ∷ 0x49 ∷ payload))
+abbrev pub cuei_item : ℕ → List ℕ → List ℕ
+cuei_item tag payload = tag ∷ ((4 + length payload) ∷ (0x43 ∷ 0x55 ∷ 0x45 ∷ 0x49 ∷ payload))
 
 -- a segmentation of event 42 whose flags and what follows are these; by program, without duration and restrictions the flags are 0xBF
 abbrev pub segment : List ℕ → List ℕ
-segment rest = cueiItem 2 (0x00 ∷ 0x00 ∷ 0x00 ∷ 0x2A ∷ 0x7F ∷ rest)
+segment rest = cuei_item 2 (0x00 ∷ 0x00 ∷ 0x00 ∷ 0x2A ∷ 0x7F ∷ rest)
 
 -- ---- words: those of a command up to its type; of a time signal its time; of any its view
-abbrev pub commandHanded : ℕ → ℕ → ℕ → ℕ → ℕ → List ℕ
-commandHanded type upid-type ticks at len = 0 ∷ type ∷ replicate 14 0 ++ (upid-type ∷ ticks ∷ 0 ∷ at ∷ len ∷ [])
+abbrev pub command_handed : ℕ → ℕ → ℕ → ℕ → ℕ → List ℕ
+command_handed type upid_type_number ticks at len = 0 ∷ type ∷ replicate 14 0 ++ (upid_type_number ∷ ticks ∷ 0 ∷ at ∷ len ∷ [])
 
 -- of a step: an item's kind, its tag and its view
-abbrev pub itemHanded : ℕ → ℕ → ℕ → ℕ → ℕ → List ℕ
-itemHanded identifier upid-type tag at len = replicate 5 0 ++ (identifier ∷ upid-type ∷ replicate 23 0 ++ (tag ∷ at ∷ len ∷ []))
+abbrev pub item_handed : ℕ → ℕ → ℕ → ℕ → ℕ → List ℕ
+item_handed identifier upid_type_number tag at len = replicate 5 0 ++ (identifier ∷ upid_type_number ∷ replicate 23 0 ++ (tag ∷ at ∷ len ∷ []))
 
 -- a segmentation, not restricted: whether by program, how many components, and the UPID's type
-abbrev pub segmentHanded : ℕ → ℕ → ℕ → List ℕ
-segmentHanded program count upid = replicate 6 0 ++ (4 ∷ 0 ∷ 0 ∷ 42 ∷ 0 ∷ program ∷ 0 ∷ 1 ∷ replicate 4 0 ++ (count ∷ 0 ∷ upid ∷ replicate 12 0))
+abbrev pub segment_handed : ℕ → ℕ → ℕ → List ℕ
+segment_handed program count upid = replicate 6 0 ++ (4 ∷ 0 ∷ 0 ∷ 42 ∷ 0 ∷ program ∷ 0 ∷ 1 ∷ replicate 4 0 ++ (count ∷ 0 ∷ upid ∷ replicate 12 0))

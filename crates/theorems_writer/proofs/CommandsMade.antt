@@ -13,40 +13,40 @@ use native.Mathlib.Omega.{arith}
 use lib.Dec.{ltb}
 use lib.ListN.{length, take, drop}
 use borrow.Author.Tests.{le-leb}
-use Rattle.command.specs.Command.{private, countIn, componentsOf, withView}
-use Rattle.command.specs.Writable.{writableInsert}
-use Rattle.command.specs.Insert.{insert, insertOf, count}
+use Rattle.command.specs.Command.{private, count_in, components_of, with_view}
+use Rattle.command.specs.Writable.{writable_insert}
+use Rattle.command.specs.Insert.{insert, insert_of, count}
 use Rattle.command.specs.declared.Private.{Private}
 use Rattle.command.specs.declared.SpliceCommand.{SpliceCommand}
 use Rattle.command.specs.declared.components.InsertComponent.{InsertComponent}
 use Rattle.command.specs.declared.insert.SpliceDetail.{SpliceDetail}
-use Rattle.command_measure.proofs.Making.{plain-seen, plain-active, private-fields}
-use Rattle.command_measure.proofs.Ties.{time-fields, insert-fields}
-use Rattle.command_measure.specs.Fields.{timeFields, insertFields}
-use Rattle.command_measure.specs.Made.{counted, timesFit, insertMade, commandMade}
-use Rattle.command_writer.proofs.Theorems.{private-command-write-read}
+use Rattle.command_measure.proofs.Making.{plain_seen, plain_active, private_fields}
+use Rattle.command_measure.proofs.Ties.{time_fields_lem, insert_fields_lem}
+use Rattle.command_measure.specs.Fields.{time_fields, insert_fields}
+use Rattle.command_measure.specs.Made.{counted, times_fit, insert_made, command_made}
+use Rattle.command_writer.proofs.Theorems.{private_command_write_read}
 use Rattle.descriptor_round_trips.specs.Making.{fit}
-use Rattle.command.proofs.Arrays.{array-take}
-use Rattle.splice_time.specs.Time.{spliceTime, notImmediate}
+use Rattle.command.proofs.Arrays.{array_take}
+use Rattle.splice_time.specs.Time.{splice_time, not_immediate}
 use Rattle.splice_time.specs.declared.SpliceTime.{SpliceTime}
-use Rattle.section.specs.Section.{privateView}
-use Rattle.section_writer.proofs.FullTrips.{Held, command-write-read}
+use Rattle.section.specs.Section.{private_view}
+use Rattle.section_writer.proofs.FullTrips.{Held, command_write_read}
 use Rattle.section_writer.specs.Trips.{own_of}
 use Rattle.section_writer.specs.Writing.{type_of}
-use Rattle.table.proofs.Bits.{all-bytesN}
-use Rattle.table.proofs.Lists.{zero_one, and-true}
+use Rattle.table.proofs.Bits.{all_bytes_n}
+use Rattle.table.proofs.Lists.{zero_one, and_true}
 use Rattle.table.proofs.Structure.{wrote}
-use Rattle.table.proofs.Walks.{print-bits}
+use Rattle.table.proofs.Walks.{print_bits}
 use Rattle.table.specs.Bits.{pick, bytes_of, AllBytes}
-use Rattle.table.specs.Lent.{liesIn, viewed, no_view}
+use Rattle.table.specs.Lent.{lies_in, viewed, no_view}
 use Rattle.table.specs.Table.{number, part, remaining}
 use Rattle.table.specs.Writing.{walk, seen, within, Content, contents, print, Made, made, refused, make}
 use Rattle.table.specs.declared.View.{View}
-use Rattle.theorems_writer.specs.Making.{commandNumbers, CommandPayload, CommandMakes}
-use Rattle.canonical_form.specs.Same.{withoutPlace}
-use Rattle.theorems_writer.proofs.Answers.{private-of}
-use Rattle.theorems_writer.proofs.NumbersFit.{and_one, time-fits, private-fits, insert-fits}
-use Rattle.theorems_writer.proofs.WrittenBack.{command-back, held, components-read}
+use Rattle.theorems_writer.specs.Making.{command_numbers, CommandPayload, CommandMakes}
+use Rattle.canonical_form.specs.Same.{without_place}
+use Rattle.theorems_writer.proofs.Answers.{private_of}
+use Rattle.theorems_writer.proofs.NumbersFit.{and_one, time_fits, private_fits, insert_fits}
+use Rattle.theorems_writer.proofs.WrittenBack.{command_back, held, components_read}
 
 -- ---- the writer's tests
 abbrev answer : Bool → Bool → Bool → List ℕ → Made
@@ -63,29 +63,29 @@ record Tested (c : SpliceCommand) (places : List InsertComponent) (lent : List �
   pub writable : Bool
   pub payload : List ℕ
   pub bytes : AllBytes payload
-  pub is : commandMade c places lent ≡ answer (liesIn lent (privateView c)) (fit (commandNumbers c places)) writable payload
+  pub is : command_made c places lent ≡ answer (lies_in lent (private_view c)) (fit (command_numbers c places)) writable payload
 
 pub made_bytes : (cs : List Content) → AllBytes (bytes_of (print cs))
-made_bytes cs = all-bytesN (length (print cs) / 8) (print cs) (print-bits cs)
+made_bytes cs = all_bytes_n (length (print cs) / 8) (print cs) (print_bits cs)
 
-blank-lies : (lent : List ℕ) → liesIn lent no_view ≡ true
-blank-lies lent = le-leb 0 (length lent) (omega arith)
+blank_lies : (lent : List ℕ) → lies_in lent no_view ≡ true
+blank_lies lent = le-leb 0 (length lent) (omega arith)
 
 -- a time and an insert have no view
-time-seen : (t : SpliceTime) → seen [] (walk spliceTime t 0).fields ≡ true
-time-seen t = ap (seen []) (time-fields t 0) ∙ go t
+time_seen : (t : SpliceTime) → seen [] (walk splice_time t 0).fields ≡ true
+time_seen t = ap (seen []) (time_fields_lem t 0) ∙ go t
   where
-    go : (t : SpliceTime) → seen [] (timeFields t) ≡ true
+    go : (t : SpliceTime) → seen [] (time_fields t) ≡ true
     go SpliceTime.Immediate = refl
     go SpliceTime.Unspecified = refl
     go (SpliceTime.At n) = refl
 
-insert-seen : (event kept : ℕ) (d : SpliceDetail) (cs : List InsertComponent) → length cs ≡ count (insertOf d).splice_mode
+insert_seen : (event kept : ℕ) (d : SpliceDetail) (cs : List InsertComponent) → length cs ≡ count (insert_of d).splice_mode
     → seen [] (walk insert (record { value = record { splice_event_id = event; reserved = kept; splice_detail = d }; components = cs }) 0).fields ≡ true
-insert-seen event kept SpliceDetail.Cancel cs e = ap (seen []) (insert-fields event kept SpliceDetail.Cancel cs e)
-insert-seen event kept (SpliceDetail.Insert i) cs e =
-    ap (seen []) (insert-fields event kept (SpliceDetail.Insert i) cs e)
-    ∙ plain-seen [] (insertFields (record { value = record { splice_event_id = event; reserved = kept; splice_detail = SpliceDetail.Insert i }; components = cs })) (plain-active i cs)
+insert_seen event kept SpliceDetail.Cancel cs e = ap (seen []) (insert_fields_lem event kept SpliceDetail.Cancel cs e)
+insert_seen event kept (SpliceDetail.Insert i) cs e =
+    ap (seen []) (insert_fields_lem event kept (SpliceDetail.Insert i) cs e)
+    ∙ plain_seen [] (insert_fields (record { value = record { splice_event_id = event; reserved = kept; splice_detail = SpliceDetail.Insert i }; components = cs })) (plain_active i cs)
 
 -- the times, then the table
 both : (times fits writable : Bool) (b : List ℕ) → pick times (pick fits (pick writable (made b) (refused 33)) (refused 32)) (refused 32) ≡ answer true (times && fits) writable b
@@ -93,231 +93,231 @@ both true fits writable b = refl
 both false fits writable b = refl
 
 tested : (c : SpliceCommand) (places : List InsertComponent) (lent : List ℕ) → Held c places → Tested c places lent
-unfolding commandMade insertMade
-tested SpliceCommand.SpliceNull places lent h = record { writable = true; payload = []; bytes = tt; is = rw (blank-lies lent) }
+unfolding command_made insert_made
+tested SpliceCommand.SpliceNull places lent h = record { writable = true; payload = []; bytes = tt; is = rw (blank_lies lent) }
 tested (SpliceCommand.SpliceInsert i) places lent h =
     let x = counted i places in
     let fs = (walk insert x 0).fields in
     let b = bytes_of (print (contents [] fs)) in
     record {
-      writable = writableInsert x;
+      writable = writable_insert x;
       payload = b;
       bytes = made_bytes (contents [] fs);
-      is = rw (blank-lies lent) (
-          ap (λ (s : Bool). pick (timesFit x.components) (answer s (within fs) (writableInsert x) b) (refused 32))
-          (insert-seen i.splice_event_id i.reserved i.splice_detail x.components h)
-          ∙ both (timesFit x.components) (within fs) (writableInsert x) b
-          ∙ ap (λ (w : Bool). answer true w (writableInsert x) b) (insert-fits i places h));
+      is = rw (blank_lies lent) (
+          ap (λ (s : Bool). pick (times_fit x.components) (answer s (within fs) (writable_insert x) b) (refused 32))
+          (insert_seen i.splice_event_id i.reserved i.splice_detail x.components h)
+          ∙ both (times_fit x.components) (within fs) (writable_insert x) b
+          ∙ ap (λ (w : Bool). answer true w (writable_insert x) b) (insert_fits i places h));
     }
 tested (SpliceCommand.TimeSignal t) places lent h =
-    let fs = (walk spliceTime t 0).fields in
+    let fs = (walk splice_time t 0).fields in
     record {
-      writable = notImmediate t;
+      writable = not_immediate t;
       payload = bytes_of (print (contents [] fs));
       bytes = made_bytes (contents [] fs);
-      is = rw (blank-lies lent) (ap₂ (λ (s w : Bool). answer s w (notImmediate t) (bytes_of (print (contents [] fs)))) (time-seen t) (time-fits t));
+      is = rw (blank_lies lent) (ap₂ (λ (s w : Bool). answer s w (not_immediate t) (bytes_of (print (contents [] fs)))) (time_seen t) (time_fits t));
     }
-tested SpliceCommand.BandwidthReservation places lent h = record { writable = true; payload = []; bytes = tt; is = rw (blank-lies lent) }
+tested SpliceCommand.BandwidthReservation places lent h = record { writable = true; payload = []; bytes = tt; is = rw (blank_lies lent) }
 tested (SpliceCommand.PrivateCommand p) places lent h =
     let fs = (walk private p 0).fields in
-    let s : seen lent fs ≡ liesIn lent p.private_bytes = ap (seen lent) (private-fields p lent) ∙ and_one (liesIn lent p.private_bytes) in
+    let s : seen lent fs ≡ lies_in lent p.private_bytes = ap (seen lent) (private_fields p lent) ∙ and_one (lies_in lent p.private_bytes) in
     record {
       writable = true;
       payload = bytes_of (print (contents lent fs));
       bytes = made_bytes (contents lent fs);
-      is = ap₂ (λ (s w : Bool). answer s w true (bytes_of (print (contents lent fs)))) s (private-fits p);
+      is = ap₂ (λ (s w : Bool). answer s w true (bytes_of (print (contents lent fs)))) s (private_fits p);
     }
 
 -- what 33 asks of a command
-abbrev pub writableOf : SpliceCommand → List InsertComponent → Bool
-writableOf SpliceCommand.SpliceNull places = true
-writableOf (SpliceCommand.SpliceInsert i) places = writableInsert (counted i places)
-writableOf (SpliceCommand.TimeSignal t) places = notImmediate t
-writableOf SpliceCommand.BandwidthReservation places = true
-writableOf (SpliceCommand.PrivateCommand p) places = true
+abbrev pub writable_of : SpliceCommand → List InsertComponent → Bool
+writable_of SpliceCommand.SpliceNull places = true
+writable_of (SpliceCommand.SpliceInsert i) places = writable_insert (counted i places)
+writable_of (SpliceCommand.TimeSignal t) places = not_immediate t
+writable_of SpliceCommand.BandwidthReservation places = true
+writable_of (SpliceCommand.PrivateCommand p) places = true
 
-writable-is : (c : SpliceCommand) (places : List InsertComponent) (lent : List ℕ) (h : Held c places) → (tested c places lent h).writable ≡ writableOf c places
+writable_is : (c : SpliceCommand) (places : List InsertComponent) (lent : List ℕ) (h : Held c places) → (tested c places lent h).writable ≡ writable_of c places
 unfolding tested
-writable-is SpliceCommand.SpliceNull places lent h = refl
-writable-is (SpliceCommand.SpliceInsert i) places lent h = refl
-writable-is (SpliceCommand.TimeSignal t) places lent h = refl
-writable-is SpliceCommand.BandwidthReservation places lent h = refl
-writable-is (SpliceCommand.PrivateCommand p) places lent h = refl
+writable_is SpliceCommand.SpliceNull places lent h = refl
+writable_is (SpliceCommand.SpliceInsert i) places lent h = refl
+writable_is (SpliceCommand.TimeSignal t) places lent h = refl
+writable_is SpliceCommand.BandwidthReservation places lent h = refl
+writable_is (SpliceCommand.PrivateCommand p) places lent h = refl
 
 -- where none of 31, 32, 33 applies, bytes are made
-pub writable-made : (c : SpliceCommand) (places : List InsertComponent) (lent : List ℕ) → Held c places → liesIn lent (privateView c) ≡ true → fit (commandNumbers c places) ≡ true → writableOf c places ≡ true
-    → (p : List ℕ) × (commandMade c places lent ≡ made p)
-writable-made c places lent h l f g =
+pub writable_made : (c : SpliceCommand) (places : List InsertComponent) (lent : List ℕ) → Held c places → lies_in lent (private_view c) ≡ true → fit (command_numbers c places) ≡ true → writable_of c places ≡ true
+    → (p : List ℕ) × (command_made c places lent ≡ made p)
+writable_made c places lent h l f g =
     let t = tested c places lent h in
-    let e : t.writable ≡ true = writable-is c places lent h ∙ g in
-    (t.payload, t.is ∙ passes (liesIn lent (privateView c)) (fit (commandNumbers c places)) t.writable t.payload l f e)
+    let e : t.writable ≡ true = writable_is c places lent h ∙ g in
+    (t.payload, t.is ∙ passes (lies_in lent (private_view c)) (fit (command_numbers c places)) t.writable t.payload l f e)
   where
     passes : (a b c : Bool) (p : List ℕ) → a ≡ true → b ≡ true → c ≡ true → answer a b c p ≡ made p
     passes a b c p e f g = rw (e, f, g)
 
 -- what the tests say of what is made
-answer-made : (lies fits writable : Bool) (b p : List ℕ) → answer lies fits writable b ≡ made p → (lies ≡ true) × (fits ≡ true) × (b ≡ p)
-answer-made true true true b p e = (refl, refl, cc)
-answer-made true true false b p e = zero_one cc
-answer-made true false writable b p e = zero_one cc
-answer-made false fits writable b p e = zero_one cc
+answer_made : (lies fits writable : Bool) (b p : List ℕ) → answer lies fits writable b ≡ made p → (lies ≡ true) × (fits ≡ true) × (b ≡ p)
+answer_made true true true b p e = (refl, refl, cc)
+answer_made true true false b p e = zero_one cc
+answer_made true false writable b p e = zero_one cc
+answer_made false fits writable b p e = zero_one cc
 
-answer-else : (writable : Bool) (b : List ℕ) → (answer true true writable b ≡ refused 33) ⊎ ((p : List ℕ) × (answer true true writable b ≡ made p))
-answer-else true b = inr (b, refl)
-answer-else false b = inl refl
+answer_else : (writable : Bool) (b : List ℕ) → (answer true true writable b ≡ refused 33) ⊎ ((p : List ℕ) × (answer true true writable b ≡ made p))
+answer_else true b = inr (b, refl)
+answer_else false b = inl refl
 
 module _ (c : SpliceCommand) (places : List InsertComponent) (lent : List ℕ) (h : Held c places) where
-  pub is-outside : liesIn lent (privateView c) ≡ false → commandMade c places lent ≡ refused 31
-  is-outside l = let t = tested c places lent h in t.is ∙ ap (λ (s : Bool). answer s (fit (commandNumbers c places)) t.writable t.payload) l
+  pub is_outside : lies_in lent (private_view c) ≡ false → command_made c places lent ≡ refused 31
+  is_outside l = let t = tested c places lent h in t.is ∙ ap (λ (s : Bool). answer s (fit (command_numbers c places)) t.writable t.payload) l
 
-  pub is-over : liesIn lent (privateView c) ≡ true → fit (commandNumbers c places) ≡ false → commandMade c places lent ≡ refused 32
-  is-over l f = let t = tested c places lent h in t.is ∙ ap₂ (λ (s w : Bool). answer s w t.writable t.payload) l f
+  pub is_over : lies_in lent (private_view c) ≡ true → fit (command_numbers c places) ≡ false → command_made c places lent ≡ refused 32
+  is_over l f = let t = tested c places lent h in t.is ∙ ap₂ (λ (s w : Bool). answer s w t.writable t.payload) l f
 
-  pub made-or-not : liesIn lent (privateView c) ≡ true → fit (commandNumbers c places) ≡ true → (commandMade c places lent ≡ refused 33) ⊎ ((p : List ℕ) × (commandMade c places lent ≡ made p))
-  made-or-not l f =
+  pub made_or_not : lies_in lent (private_view c) ≡ true → fit (command_numbers c places) ≡ true → (command_made c places lent ≡ refused 33) ⊎ ((p : List ℕ) × (command_made c places lent ≡ made p))
+  made_or_not l f =
       let t = tested c places lent h in
-      let e : commandMade c places lent ≡ answer true true t.writable t.payload = t.is ∙ ap₂ (λ (s w : Bool). answer s w t.writable t.payload) l f in
-      rw e (answer-else t.writable t.payload)
+      let e : command_made c places lent ≡ answer true true t.writable t.payload = t.is ∙ ap₂ (λ (s w : Bool). answer s w t.writable t.payload) l f in
+      rw e (answer_else t.writable t.payload)
 
-  module _ (p : List ℕ) (e : commandMade c places lent ≡ made p) where
-    passed : (liesIn lent (privateView c) ≡ true) × (fit (commandNumbers c places) ≡ true) × ((tested c places lent h).payload ≡ p)
-    passed = let t = tested c places lent h in answer-made (liesIn lent (privateView c)) (fit (commandNumbers c places)) t.writable t.payload p (sym t.is ∙ e)
+  module _ (p : List ℕ) (e : command_made c places lent ≡ made p) where
+    passed : (lies_in lent (private_view c) ≡ true) × (fit (command_numbers c places) ≡ true) × ((tested c places lent h).payload ≡ p)
+    passed = let t = tested c places lent h in answer_made (lies_in lent (private_view c)) (fit (command_numbers c places)) t.writable t.payload p (sym t.is ∙ e)
 
-    pub lies-if-made : liesIn lent (privateView c) ≡ true
-    lies-if-made = passed.0
+    pub lies_if_made : lies_in lent (private_view c) ≡ true
+    lies_if_made = passed.0
 
-    pub fits-if-made : fit (commandNumbers c places) ≡ true
-    fits-if-made = passed.1
+    pub fits_if_made : fit (command_numbers c places) ≡ true
+    fits_if_made = passed.1
 
-    pub bytes-if-made : AllBytes p
-    bytes-if-made = rw (← passed.2) (tested c places lent h).bytes
+    pub bytes_if_made : AllBytes p
+    bytes_if_made = rw (← passed.2) (tested c places lent h).bytes
 
 -- ---- what is made reads as the command
-own-values : (c : SpliceCommand) → withoutPlace (own_of c) ≡ withoutPlace c
-own-values SpliceCommand.SpliceNull = refl
-own-values (SpliceCommand.SpliceInsert i) = refl
-own-values (SpliceCommand.TimeSignal t) = refl
-own-values SpliceCommand.BandwidthReservation = refl
-own-values (SpliceCommand.PrivateCommand p) = refl
+own_values : (c : SpliceCommand) → without_place (own_of c) ≡ without_place c
+own_values SpliceCommand.SpliceNull = refl
+own_values (SpliceCommand.SpliceInsert i) = refl
+own_values (SpliceCommand.TimeSignal t) = refl
+own_values SpliceCommand.BandwidthReservation = refl
+own_values (SpliceCommand.PrivateCommand p) = refl
 
 module _ (places : List InsertComponent) (lent p : List ℕ) where
-  own-components : (c : SpliceCommand) → length places ≡ 255 → countIn c ≤ 255 → commandMade c places lent ≡ made p → take (countIn (own_of c)) (componentsOf p) ≡ take (countIn c) places
-  own-components SpliceCommand.SpliceNull n k e = refl
-  own-components (SpliceCommand.SpliceInsert i) n k e =
-      ap (take (countIn (SpliceCommand.SpliceInsert i))) (components-read i places lent p n k e)
-      ∙ array-take (counted i places).components (countIn (SpliceCommand.SpliceInsert i)) (held (SpliceCommand.SpliceInsert i) places n k)
-  own-components (SpliceCommand.TimeSignal t) n k e = refl
-  own-components SpliceCommand.BandwidthReservation n k e = refl
-  own-components (SpliceCommand.PrivateCommand own) n k e = refl
+  own_components : (c : SpliceCommand) → length places ≡ 255 → count_in c ≤ 255 → command_made c places lent ≡ made p → take (count_in (own_of c)) (components_of p) ≡ take (count_in c) places
+  own_components SpliceCommand.SpliceNull n k e = refl
+  own_components (SpliceCommand.SpliceInsert i) n k e =
+      ap (take (count_in (SpliceCommand.SpliceInsert i))) (components_read i places lent p n k e)
+      ∙ array_take (counted i places).components (count_in (SpliceCommand.SpliceInsert i)) (held (SpliceCommand.SpliceInsert i) places n k)
+  own_components (SpliceCommand.TimeSignal t) n k e = refl
+  own_components SpliceCommand.BandwidthReservation n k e = refl
+  own_components (SpliceCommand.PrivateCommand own) n k e = refl
 
-  no-view : viewed p no_view ≡ viewed lent no_view
+  no_view_lem : viewed p no_view ≡ viewed lent no_view
   unfolding viewed
-  no-view = rw (blank-lies p, blank-lies lent)
+  no_view_lem = rw (blank_lies p, blank_lies lent)
 
   -- the bytes of a view that was copied
-  private-view : (own : Private) → AllBytes lent → AllBytes p → commandMade (SpliceCommand.PrivateCommand own) places lent ≡ made p
+  private_view_lem : (own : Private) → AllBytes lent → AllBytes p → command_made (SpliceCommand.PrivateCommand own) places lent ≡ made p
       → viewed p (record { at = 4; len = own.private_bytes.len }) ≡ viewed lent own.private_bytes
   unfolding viewed private number remaining part
-  private-view own a b e =
+  private_view_lem own a b e =
       let c = SpliceCommand.PrivateCommand own in
-      let r = command-write-read c places lent p tt e in
-      let k = (command-back 0xff p b (own_of c) r.1 r.0).1 in
-      let same = (private-command-write-read own places lent p a e).1 in
+      let r = command_write_read c places lent p tt e in
+      let k = (command_back 0xff p b (own_of c) r.1 r.0).1 in
+      let same = (private_command_write_read own places lent p a e).1 in
       let f : take own.private_bytes.len (drop 4 p) ≡ take own.private_bytes.len (drop own.private_bytes.at lent) = cc in
-      rw (lies-if-made (own_of c) (componentsOf p) p tt p k, lies-if-made c places lent tt p e) f
+      rw (lies_if_made (own_of c) (components_of p) p tt p k, lies_if_made c places lent tt p e) f
 
-  own_view : (c : SpliceCommand) → AllBytes lent → AllBytes p → commandMade c places lent ≡ made p → viewed p (privateView (own_of c)) ≡ viewed lent (privateView c)
-  own_view SpliceCommand.SpliceNull a b e = no-view
-  own_view (SpliceCommand.SpliceInsert i) a b e = no-view
-  own_view (SpliceCommand.TimeSignal t) a b e = no-view
-  own_view SpliceCommand.BandwidthReservation a b e = no-view
-  own_view (SpliceCommand.PrivateCommand own) a b e = private-view own a b e
+  own_view : (c : SpliceCommand) → AllBytes lent → AllBytes p → command_made c places lent ≡ made p → viewed p (private_view (own_of c)) ≡ viewed lent (private_view c)
+  own_view SpliceCommand.SpliceNull a b e = no_view_lem
+  own_view (SpliceCommand.SpliceInsert i) a b e = no_view_lem
+  own_view (SpliceCommand.TimeSignal t) a b e = no_view_lem
+  own_view SpliceCommand.BandwidthReservation a b e = no_view_lem
+  own_view (SpliceCommand.PrivateCommand own) a b e = private_view_lem own a b e
 
-pub payload-made : (c : SpliceCommand) (places : List InsertComponent) (lent p : List ℕ) → length places ≡ 255 → countIn c ≤ 255 → AllBytes lent → commandMade c places lent ≡ made p
+pub payload_made_lem : (c : SpliceCommand) (places : List InsertComponent) (lent p : List ℕ) → length places ≡ 255 → count_in c ≤ 255 → AllBytes lent → command_made c places lent ≡ made p
     → CommandPayload c places lent p
-payload-made c places lent p n k a e =
+payload_made_lem c places lent p n k a e =
     let h = held c places n k in
-    let r = command-write-read c places lent p h e in
-    let b = bytes-if-made c places lent h p e in
+    let r = command_write_read c places lent p h e in
+    let b = bytes_if_made c places lent h p e in
     record {
       bytes = b;
       form = r.1;
       again = own_of c;
       reading = r.0;
-      values = own-values c;
-      components = own-components places lent p c n k e;
+      values = own_values c;
+      components = own_components places lent p c n k e;
       view = own_view places lent p c a b e;
     }
 
 -- ---- what reads as the command is made of it
 
 -- a command is its view, and what it has besides
-with-own-view : (c : SpliceCommand) → c ≡ withView (λ v. privateView c) (withoutPlace c)
-with-own-view SpliceCommand.SpliceNull = refl
-with-own-view (SpliceCommand.SpliceInsert i) = refl
-with-own-view (SpliceCommand.TimeSignal t) = refl
-with-own-view SpliceCommand.BandwidthReservation = refl
-with-own-view (SpliceCommand.PrivateCommand p) = refl
+with_own_view : (c : SpliceCommand) → c ≡ with_view (λ v. private_view c) (without_place c)
+with_own_view SpliceCommand.SpliceNull = refl
+with_own_view (SpliceCommand.SpliceInsert i) = refl
+with_own_view (SpliceCommand.TimeSignal t) = refl
+with_own_view SpliceCommand.BandwidthReservation = refl
+with_own_view (SpliceCommand.PrivateCommand p) = refl
 
 -- with another view, that has the same bytes
 module _ (v : View) (there places : List InsertComponent) (s lent b : List ℕ) where
-  private-again : (p : Private) → liesIn lent p.private_bytes ≡ true → make private true s (record { identifier = p.identifier; private_bytes = v }) ≡ made b
+  private_again : (p : Private) → lies_in lent p.private_bytes ≡ true → make private true s (record { identifier = p.identifier; private_bytes = v }) ≡ made b
       → viewed s v ≡ viewed lent p.private_bytes → make private true lent p ≡ made b
   unfolding private number remaining part viewed
-  private-again p l e f =
+  private_again p l e f =
       let q : Private = record { identifier = p.identifier; private_bytes = v } in
       let w = wrote true s (walk private q 0).fields b e in
-      let i : ltb p.identifier (2 ^ 32) ≡ true = (and-true (ltb p.identifier (2 ^ 32)) _ w.widths).0 in
+      let i : ltb p.identifier (2 ^ 32) ≡ true = (and_true (ltb p.identifier (2 ^ 32)) _ w.widths).0 in
       let g : viewed lent p.private_bytes ≡ take p.private_bytes.len (drop p.private_bytes.at lent) = rw l in
-      rw (l, i, ← g, ← f) (ap made (sym (private-of s q b e)))
+      rw (l, i, ← g, ← f) (ap made (sym (private_of s q b e)))
 
-  again : (c : SpliceCommand) → liesIn lent (privateView c) ≡ true → commandMade (withView (λ u. v) (withoutPlace c)) there s ≡ made b
-      → take (countIn (withView (λ u. v) (withoutPlace c))) there ≡ take (countIn c) places → viewed s (privateView (withView (λ u. v) (withoutPlace c))) ≡ viewed lent (privateView c)
-      → commandMade c places lent ≡ made b
-  unfolding commandMade
+  again : (c : SpliceCommand) → lies_in lent (private_view c) ≡ true → command_made (with_view (λ u. v) (without_place c)) there s ≡ made b
+      → take (count_in (with_view (λ u. v) (without_place c))) there ≡ take (count_in c) places → viewed s (private_view (with_view (λ u. v) (without_place c))) ≡ viewed lent (private_view c)
+      → command_made c places lent ≡ made b
+  unfolding command_made
   again SpliceCommand.SpliceNull l e f g = e
-  again (SpliceCommand.SpliceInsert i) l e f g = ap (λ (cs : List InsertComponent). insertMade (record { value = i; components = cs })) (sym f) ∙ e
+  again (SpliceCommand.SpliceInsert i) l e f g = ap (λ (cs : List InsertComponent). insert_made (record { value = i; components = cs })) (sym f) ∙ e
   again (SpliceCommand.TimeSignal t) l e f g = e
   again SpliceCommand.BandwidthReservation l e f g = e
-  again (SpliceCommand.PrivateCommand p) l e f g = private-again p l e g
+  again (SpliceCommand.PrivateCommand p) l e f g = private_again p l e g
 
-pub made-if-read : (c : SpliceCommand) (places : List InsertComponent) (lent p : List ℕ) → liesIn lent (privateView c) ≡ true → CommandPayload c places lent p → commandMade c places lent ≡ made p
-made-if-read c places lent p l q =
-    let v = privateView q.again in
-    let is : q.again ≡ withView (λ u. v) (withoutPlace c) = with-own-view q.again ∙ ap (withView (λ u. v)) q.values in
-    again v (componentsOf p) places p lent p c l
-    (ap (λ (d : SpliceCommand). commandMade d (componentsOf p) p) (sym is) ∙ (command-back (type_of c) p q.bytes q.again q.form q.reading).1)
-    (ap (λ (d : SpliceCommand). take (countIn d) (componentsOf p)) (sym is) ∙ q.components)
-    (ap (λ (d : SpliceCommand). viewed p (privateView d)) (sym is) ∙ q.view)
+pub made_if_read : (c : SpliceCommand) (places : List InsertComponent) (lent p : List ℕ) → lies_in lent (private_view c) ≡ true → CommandPayload c places lent p → command_made c places lent ≡ made p
+made_if_read c places lent p l q =
+    let v = private_view q.again in
+    let is : q.again ≡ with_view (λ u. v) (without_place c) = with_own_view q.again ∙ ap (with_view (λ u. v)) q.values in
+    again v (components_of p) places p lent p c l
+    (ap (λ (d : SpliceCommand). command_made d (components_of p) p) (sym is) ∙ (command_back (type_of c) p q.bytes q.again q.form q.reading).1)
+    (ap (λ (d : SpliceCommand). take (count_in d) (components_of p)) (sym is) ∙ q.components)
+    (ap (λ (d : SpliceCommand). viewed p (private_view d)) (sym is) ∙ q.view)
 
 -- ---- the relation
-module _ (c : SpliceCommand) (places : List InsertComponent) (lent : List ℕ) (n : length places ≡ 255) (k : countIn c ≤ 255) (a : AllBytes lent) where
-  pub command-makes : CommandMakes c places lent (commandMade c places lent)
-  command-makes = go (liesIn lent (privateView c)) refl (fit (commandNumbers c places)) refl
+module _ (c : SpliceCommand) (places : List InsertComponent) (lent : List ℕ) (n : length places ≡ 255) (k : count_in c ≤ 255) (a : AllBytes lent) where
+  pub command_makes : CommandMakes c places lent (command_made c places lent)
+  command_makes = go (lies_in lent (private_view c)) refl (fit (command_numbers c places)) refl
     where
       h : Held c places
       h = held c places n k
 
-      fitting : liesIn lent (privateView c) ≡ true → fit (commandNumbers c places) ≡ true → (commandMade c places lent ≡ refused 33) ⊎ ((p : List ℕ) × (commandMade c places lent ≡ made p))
-          → CommandMakes c places lent (commandMade c places lent)
-      fitting l f (inl e) = rw e (CommandMakes.nobodys l f λ p q. zero_one (let z : refused 33 ≡ made p = sym e ∙ made-if-read c places lent p l q in cc))
-      fitting l f (inr r) = rw r.1 (CommandMakes.its l r.0 (payload-made c places lent r.0 n k a r.1))
+      fitting : lies_in lent (private_view c) ≡ true → fit (command_numbers c places) ≡ true → (command_made c places lent ≡ refused 33) ⊎ ((p : List ℕ) × (command_made c places lent ≡ made p))
+          → CommandMakes c places lent (command_made c places lent)
+      fitting l f (inl e) = rw e (CommandMakes.nobodys l f λ p q. zero_one (let z : refused 33 ≡ made p = sym e ∙ made_if_read c places lent p l q in cc))
+      fitting l f (inr r) = rw r.1 (CommandMakes.its l r.0 (payload_made_lem c places lent r.0 n k a r.1))
 
-      go : (lies : Bool) → liesIn lent (privateView c) ≡ lies → (fits : Bool) → fit (commandNumbers c places) ≡ fits → CommandMakes c places lent (commandMade c places lent)
-      go false l fits f = rw (is-outside c places lent h l) (CommandMakes.outside l)
-      go true l false f = rw (is-over c places lent h l f) (CommandMakes.over l f)
-      go true l true f = fitting l f (made-or-not c places lent h l f)
+      go : (lies : Bool) → lies_in lent (private_view c) ≡ lies → (fits : Bool) → fit (command_numbers c places) ≡ fits → CommandMakes c places lent (command_made c places lent)
+      go false l fits f = rw (is_outside c places lent h l) (CommandMakes.outside l)
+      go true l false f = rw (is_over c places lent h l f) (CommandMakes.over l f)
+      go true l true f = fitting l f (made_or_not c places lent h l f)
 
   -- no other answer is in the relation
-  only-made : (m : Made) → CommandMakes c places lent m → m ≡ commandMade c places lent
-  only-made _ (CommandMakes.outside l) = sym (is-outside c places lent (held c places n k) l)
-  only-made _ (CommandMakes.over l f) = sym (is-over c places lent (held c places n k) l f)
-  only-made _ (CommandMakes.nobodys l f none) = go (made-or-not c places lent (held c places n k) l f)
+  only_made : (m : Made) → CommandMakes c places lent m → m ≡ command_made c places lent
+  only_made _ (CommandMakes.outside l) = sym (is_outside c places lent (held c places n k) l)
+  only_made _ (CommandMakes.over l f) = sym (is_over c places lent (held c places n k) l f)
+  only_made _ (CommandMakes.nobodys l f none) = go (made_or_not c places lent (held c places n k) l f)
     where
-      go : (commandMade c places lent ≡ refused 33) ⊎ ((p : List ℕ) × (commandMade c places lent ≡ made p)) → refused 33 ≡ commandMade c places lent
+      go : (command_made c places lent ≡ refused 33) ⊎ ((p : List ℕ) × (command_made c places lent ≡ made p)) → refused 33 ≡ command_made c places lent
       go (inl e) = sym e
-      go (inr r) = absurd (none r.0 (payload-made c places lent r.0 n k a r.1))
-  only-made _ (CommandMakes.its l p q) = sym (made-if-read c places lent p l q)
+      go (inr r) = absurd (none r.0 (payload_made_lem c places lent r.0 n k a r.1))
+  only_made _ (CommandMakes.its l p q) = sym (made_if_read c places lent p l q)
 
-  pub one-command-made : (m o : Made) → CommandMakes c places lent m → CommandMakes c places lent o → m ≡ o
-  one-command-made m o q r = only-made m q ∙ sym (only-made o r)
+  pub one_command_made : (m o : Made) → CommandMakes c places lent m → CommandMakes c places lent o → m ≡ o
+  one_command_made m o q r = only_made m q ∙ sym (only_made o r)

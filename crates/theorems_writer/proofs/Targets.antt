@@ -10,15 +10,15 @@ use lib.Dec.{leb}
 use lib.ListN.{length, take, drop, length-append, length-drop}
 use lib.Seq.{take_at, drop_at}
 use borrow.Author.Tests.{leb-true}
-use Rattle.bit_stores.specs.Written.{answer_of, laterOf}
+use Rattle.bit_stores.specs.Written.{answer_of, later_of}
 use Rattle.bit_stores.specs.declared.Written.{Written}
 use Rattle.table.proofs.Lists.{zero_one}
 use Rattle.table.specs.Bits.{pick}
 use Rattle.table.specs.Writing.{Made, made, refused}
 use Rattle.theorems_writer.specs.Written.{ChangesOnlyResult}
 
-pub kept : (m : Made) (target : List ℕ) (n : ℕ) → answer_of m target ≡ Written.Refused n → laterOf m target ≡ target
-unfolding answer_of laterOf
+pub kept : (m : Made) (target : List ℕ) (n : ℕ) → answer_of m target ≡ Written.Refused n → later_of m target ≡ target
+unfolding answer_of later_of
 kept (made b) target n e = go (leb (length b) (length target)) e
   where
     go : (fits : Bool) → pick fits (Written.Wrote (length b)) (Written.Refused 36) ≡ Written.Refused n → pick fits (b ++ drop (length b) target) target ≡ target
@@ -27,13 +27,13 @@ kept (made b) target n e = go (leb (length b) (length target)) e
 kept (refused k) target n e = refl
 
 pub changed : (m : Made) (target : List ℕ) (n : ℕ) → answer_of m target ≡ Written.Wrote n → ChangesOnlyResult m target n
-unfolding answer_of laterOf
+unfolding answer_of later_of
 changed (made b) target n e = go (leb (length b) (length target)) refl e
   where
     go : (fits : Bool) → leb (length b) (length target) ≡ fits → pick fits (Written.Wrote (length b)) (Written.Refused 36) ≡ Written.Wrote n → ChangesOnlyResult (made b) target n
     go true l e =
         let k : length b ≡ n = cc in
-        let later : laterOf (made b) target ≡ b ++ drop (length b) target = rw l in
+        let later : later_of (made b) target ≡ b ++ drop (length b) target = rw l in
         record {
           result = b;
           is = refl;

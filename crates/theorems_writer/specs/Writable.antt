@@ -1,8 +1,8 @@
 -- What it means that what is read of an item can be written.
 use Rattle.std.specs.Prelude.{ℕ, true, List, ◌≡◌}
 use Rattle.descriptor.specs.declared.Descriptor.{Descriptor}
-use Rattle.canonical_form.specs.Descriptor.{canonicalDescriptor}
-use Rattle.descriptor_measure.specs.Writing.{descriptorMade}
+use Rattle.canonical_form.specs.Descriptor.{canonical_descriptor}
+use Rattle.descriptor_measure.specs.Writing.{descriptor_made}
 use Rattle.descriptor_round_trips.specs.Trips.{Handed, ReadAs}
 use Rattle.descriptor_loop.specs.Items.{reading_of}
 use Rattle.table.specs.Writing.{made}
@@ -12,6 +12,6 @@ use Rattle.table.specs.Writing.{made}
 pub record Writable (loop : List ℕ) (offset : ℕ) (d : Descriptor) : Type 0 where
   pub handed : Handed d (reading_of loop offset).step.identifier (reading_of loop offset).beside loop
   pub bytes : List ℕ
-  pub writes : descriptorMade d (reading_of loop offset).step.identifier (reading_of loop offset).beside loop ≡ made bytes
-  pub form : canonicalDescriptor bytes ≡ true
+  pub writes : descriptor_made d (reading_of loop offset).step.identifier (reading_of loop offset).beside loop ≡ made bytes
+  pub form : canonical_descriptor bytes ≡ true
   pub back : ReadAs bytes d (reading_of loop offset).step.identifier (reading_of loop offset).beside loop

@@ -19,81 +19,81 @@ use Rattle.transport_packet.specs.declared.packet.Refusal.{Refusal}
 use Rattle.transport_packet.specs.declared.packet.Refusal.TheVariants.{SectionLengthTooLarge}
 use Rattle.transport_packet.specs.declared.packet.Head.TheVariants as head
 use Rattle.transport_packet.specs.Packet.{head_of}
-use Rattle.transport_packet.specs.Sections.{next_of, cutFrom, cut}
-use Rattle.transport.specs.Step.{goesOn, cut_of, before}
-use Rattle.transport.specs.Assembler.{TakenTo, atRest, holding, giving, completeIn, found, takenFrom, taken_of, kept, keeping, answering, underFor, fedBy, fedWith, fedOf}
-use Rattle.transport_packet.proofs.Next.{complete-shown}
+use Rattle.transport_packet.specs.Sections.{next_of, cut_from, cut}
+use Rattle.transport.specs.Step.{goes_on, cut_of, before}
+use Rattle.transport.specs.Assembler.{TakenTo, at_rest, holding, giving, complete_in, found, taken_from, taken_of, kept, keeping, answering, under_for, fed_by, fed_with, fed_of}
+use Rattle.transport_packet.proofs.Next.{complete_shown}
 use Rattle.transport.proofs.Buffer.{stored_on, stored_same}
-use Rattle.table.proofs.Stores.{stored-nil}
+use Rattle.table.proofs.Stores.{stored_nil}
 
 module _ (a : Assembler) (s b : List ℕ) where
-  pub from_nothing : next_of s ≡ Nothing → takenFrom a s b ≡ giving (taken.Done (atRest a)) b
-  unfolding takenFrom
+  pub from_nothing : next_of s ≡ Nothing → taken_from a s b ≡ giving (taken.Done (at_rest a)) b
+  unfolding taken_from
   from_nothing e = rw e
 
-  pub from-long : next_of s ≡ Long → takenFrom a s b ≡ giving (taken.Done (atRest a)) b
-  unfolding takenFrom
-  from-long e = rw e
+  pub from_long : next_of s ≡ Long → taken_from a s b ≡ giving (taken.Done (at_rest a)) b
+  unfolding taken_from
+  from_long e = rw e
 
-  pub from-part : next_of s ≡ Part → takenFrom a s b ≡ giving (taken.Done (holding a (length s) 188)) (stored b 0 s)
-  unfolding takenFrom
-  from-part e = rw e
+  pub from_part : next_of s ≡ Part → taken_from a s b ≡ giving (taken.Done (holding a (length s) 188)) (stored b 0 s)
+  unfolding taken_from
+  from_part e = rw e
 
-  pub from-complete : (size : ℕ) → next_of s ≡ Complete size → takenFrom a s b ≡ giving (taken.Section size (holding a 0 (a.at + size))) (stored b 0 (take size s))
-  unfolding takenFrom
-  from-complete size e = rw e
+  pub from_complete : (size : ℕ) → next_of s ≡ Complete size → taken_from a s b ≡ giving (taken.Section size (holding a 0 (a.at + size))) (stored b 0 (take size s))
+  unfolding taken_from
+  from_complete size e = rw e
 
 module _ (a : Assembler) (p b : List ℕ) where
-  pub taken-nothing : next_of (take a.held b) ≡ Nothing → taken_of a p b ≡ takenFrom a (drop a.at p) b
+  pub taken_nothing : next_of (take a.held b) ≡ Nothing → taken_of a p b ≡ taken_from a (drop a.at p) b
   unfolding taken_of
-  taken-nothing e = rw e
+  taken_nothing e = rw e
 
-  pub taken-long : next_of (take a.held b) ≡ Long → taken_of a p b ≡ takenFrom a (drop a.at p) b
+  pub taken_long : next_of (take a.held b) ≡ Long → taken_of a p b ≡ taken_from a (drop a.at p) b
   unfolding taken_of
-  taken-long e = rw e
+  taken_long e = rw e
 
-  pub taken-part : next_of (take a.held b) ≡ Part → taken_of a p b ≡ takenFrom a (drop a.at p) b
+  pub taken_part : next_of (take a.held b) ≡ Part → taken_of a p b ≡ taken_from a (drop a.at p) b
   unfolding taken_of
-  taken-part e = rw e
+  taken_part e = rw e
 
-  pub taken-complete : (size : ℕ) → next_of (take a.held b) ≡ Complete size → taken_of a p b ≡ giving (taken.Section size (holding a 0 a.at)) b
+  pub taken_complete : (size : ℕ) → next_of (take a.held b) ≡ Complete size → taken_of a p b ≡ giving (taken.Section size (holding a 0 a.at)) b
   unfolding taken_of
-  taken-complete size e = rw e
+  taken_complete size e = rw e
 
 -- ---- `take`, as the code has it
 
 module _ (a : Assembler) (p b : List ℕ) where
   pub at_part : next_of (drop a.at p) ≡ Part
-      → giving (taken.Done (holding a (length p - a.at) 188)) (stored b 0 (take (length p - a.at) (drop a.at p))) ≡ takenFrom a (drop a.at p) b
+      → giving (taken.Done (holding a (length p - a.at) 188)) (stored b 0 (take (length p - a.at) (drop a.at p))) ≡ taken_from a (drop a.at p) b
   at_part e =
       let n : length (drop a.at p) ≡ length p - a.at = length-drop a.at p in
-      rw (← n, take_all (length (drop a.at p)) (drop a.at p) (omega arith)) (sym (from-part a (drop a.at p) b e))
+      rw (← n, take_all (length (drop a.at p)) (drop a.at p) (omega arith)) (sym (from_part a (drop a.at p) b e))
 
-  pub at-complete : (size : ℕ) → next_of (drop a.at p) ≡ Complete size
-      → giving (found a size 0 (a.at + size)) (stored b 0 (take (a.at + size - a.at) (drop a.at p))) ≡ takenFrom a (drop a.at p) b
-  at-complete size e =
+  pub at_complete : (size : ℕ) → next_of (drop a.at p) ≡ Complete size
+      → giving (found a size 0 (a.at + size)) (stored b 0 (take (a.at + size - a.at) (drop a.at p))) ≡ taken_from a (drop a.at p) b
+  at_complete size e =
       let n : a.at + size - a.at ≡ size = omega arith in
-      rw (n, ne_eqb size 0 (λ z. omega (arith, (complete-shown (drop a.at p) size e).is))) (sym (from-complete a (drop a.at p) b size e))
+      rw (n, ne_eqb size 0 (λ z. omega (arith, (complete_shown (drop a.at p) size e).is))) (sym (from_complete a (drop a.at p) b size e))
 
   -- the section under way, if it is whole
-  pub taken-held : 0 < completeIn (take a.held b) → giving (taken.Section (completeIn (take a.held b)) (holding a 0 a.at)) b ≡ taken_of a p b
-  taken-held h = go (next_of (take a.held b)) refl
+  pub taken_held : 0 < complete_in (take a.held b) → giving (taken.Section (complete_in (take a.held b)) (holding a 0 a.at)) b ≡ taken_of a p b
+  taken_held h = go (next_of (take a.held b)) refl
     where
-      go : (k : Next) → next_of (take a.held b) ≡ k → giving (taken.Section (completeIn (take a.held b)) (holding a 0 a.at)) b ≡ taken_of a p b
+      go : (k : Next) → next_of (take a.held b) ≡ k → giving (taken.Section (complete_in (take a.held b)) (holding a 0 a.at)) b ≡ taken_of a p b
       go Nothing e = let n : 0 < 0 = rw e at h in absurd (omega arith)
       go Long e = let n : 0 < 0 = rw e at h in absurd (omega arith)
       go Part e = let n : 0 < 0 = rw e at h in absurd (omega arith)
-      go (Complete size) e = rw e (sym (taken-complete a p b size e))
+      go (Complete size) e = rw e (sym (taken_complete a p b size e))
 
   -- and else the packet's
-  pub taken_next : completeIn (take a.held b) ≤ 0 → takenFrom a (drop a.at p) b ≡ taken_of a p b
+  pub taken_next : complete_in (take a.held b) ≤ 0 → taken_from a (drop a.at p) b ≡ taken_of a p b
   taken_next h = go (next_of (take a.held b)) refl
     where
-      go : (k : Next) → next_of (take a.held b) ≡ k → takenFrom a (drop a.at p) b ≡ taken_of a p b
-      go Nothing e = sym (taken-nothing a p b e)
-      go Long e = sym (taken-long a p b e)
-      go Part e = sym (taken-part a p b e)
-      go (Complete size) e = let n : size ≤ 0 = rw e at h in absurd (omega (arith, (complete-shown (take a.held b) size e).is))
+      go : (k : Next) → next_of (take a.held b) ≡ k → taken_from a (drop a.at p) b ≡ taken_of a p b
+      go Nothing e = sym (taken_nothing a p b e)
+      go Long e = sym (taken_long a p b e)
+      go Part e = sym (taken_part a p b e)
+      go (Complete size) e = let n : size ≤ 0 = rw e at h in absurd (omega (arith, (complete_shown (take a.held b) size e).is))
 
 -- the state behind what was taken
 abbrev pub later : Taken → Assembler
@@ -104,155 +104,155 @@ later (taken.Done a) = a
 abbrev pub Keeps : Assembler → TakenTo → Type 0
 Keeps a t = holding a (later t.answer).held (later t.answer).at ≡ later t.answer
 
-from-keeps : (a : Assembler) (s b : List ℕ) → Keeps a (takenFrom a s b)
-unfolding takenFrom
-from-keeps a s b = go (next_of s) refl
+from_keeps : (a : Assembler) (s b : List ℕ) → Keeps a (taken_from a s b)
+unfolding taken_from
+from_keeps a s b = go (next_of s) refl
   where
-    go : (k : Next) → next_of s ≡ k → Keeps a (takenFrom a s b)
+    go : (k : Next) → next_of s ≡ k → Keeps a (taken_from a s b)
     go Nothing e = rw e
     go Long e = rw e
     go Part e = rw e
     go (Complete size) e = rw e
 
 -- neither the PID nor the counter is another
-pub take-keeps : (a : Assembler) (p b : List ℕ) → Keeps a (taken_of a p b)
-take-keeps a p b = go (next_of (take a.held b)) refl
+pub take_keeps : (a : Assembler) (p b : List ℕ) → Keeps a (taken_of a p b)
+take_keeps a p b = go (next_of (take a.held b)) refl
   where
     go : (k : Next) → next_of (take a.held b) ≡ k → Keeps a (taken_of a p b)
-    go Nothing e = rw (taken-nothing a p b e) (from-keeps a (drop a.at p) b)
-    go Long e = rw (taken-long a p b e) (from-keeps a (drop a.at p) b)
-    go Part e = rw (taken-part a p b e) (from-keeps a (drop a.at p) b)
-    go (Complete size) e = rw (taken-complete a p b size e)
+    go Nothing e = rw (taken_nothing a p b e) (from_keeps a (drop a.at p) b)
+    go Long e = rw (taken_long a p b e) (from_keeps a (drop a.at p) b)
+    go Part e = rw (taken_part a p b e) (from_keeps a (drop a.at p) b)
+    go (Complete size) e = rw (taken_complete a p b size e)
 
 -- ---- `feed`, by the head
 
 module _ (a : Assembler) (p b : List ℕ) where
-  pub fed-refused : (r : Refusal) → head_of a.pid p ≡ head.Refused r → fedOf a p b ≡ answering (fed.Refused r) b
-  unfolding fedWith
-  fed-refused r e = rw e
+  pub fed_refused : (r : Refusal) → head_of a.pid p ≡ head.Refused r → fed_of a p b ≡ answering (fed.Refused r) b
+  unfolding fed_with
+  fed_refused r e = rw e
 
-  pub fed-none : head_of a.pid p ≡ head.NoPayload → fedOf a p b ≡ answering (fed.Is (atRest a)) b
-  unfolding fedWith
-  fed-none e = rw e
+  pub fed_none : head_of a.pid p ≡ head.NoPayload → fed_of a p b ≡ answering (fed.Is (at_rest a)) b
+  unfolding fed_with
+  fed_none e = rw e
 
   module _ (counter at first : ℕ) (e : head_of a.pid p ≡ head.Payload counter at first) where
-    pub fed-repeat : counter ≡ a.counter → fedOf a p b ≡ answering (fed.Is (atRest a)) b
-    unfolding fedWith
-    fed-repeat h = rw (e, eq-eqb _ _ h)
+    pub fed_repeat : counter ≡ a.counter → fed_of a p b ≡ answering (fed.Is (at_rest a)) b
+    unfolding fed_with
+    fed_repeat h = rw (e, eq-eqb _ _ h)
 
-    pub fed-goes : (counter ≡ a.counter → ⊥) → fedOf a p b ≡ fedBy a counter first (underFor a counter b) (before p at first) (drop first p) b
-    unfolding fedWith
-    fed-goes h = rw (e, ne_eqb _ _ h)
+    pub fed_goes : (counter ≡ a.counter → ⊥) → fed_of a p b ≡ fed_by a counter first (under_for a counter b) (before p at first) (drop first p) b
+    unfolding fed_with
+    fed_goes h = rw (e, ne_eqb _ _ h)
 
 -- ---- a payload that is no repeat
 
-cut-none : (s : List ℕ) → length s ≡ 0 → (cut s).long ≡ false
-unfolding cutFrom
-cut-none [] h = refl
-cut-none (x ∷ s) h = absurd (omega arith)
+cut_none : (s : List ℕ) → length s ≡ 0 → (cut s).long ≡ false
+unfolding cut_from
+cut_none [] h = refl
+cut_none (x ∷ s) h = absurd (omega arith)
 
 module _ (under x : List ℕ) where
-  pub goes-complete : (size : ℕ) → goesOn under x ≡ Complete size → next_of (under ++ x) ≡ Complete size
-  goes-complete size e = go (eqb (length under) 0) refl
+  pub goes_complete : (size : ℕ) → goes_on under x ≡ Complete size → next_of (under ++ x) ≡ Complete size
+  goes_complete size e = go (eqb (length under) 0) refl
     where
       go : (f : Bool) → eqb (length under) 0 ≡ f → next_of (under ++ x) ≡ Complete size
       go true f = let n : Nothing ≡ Complete size = rw f at e in let z : ◌≡◌ {A = ℕ} 0 1 = cc in absurd (omega arith)
       go false f = rw f at e
 
-  pub goes-part : goesOn under x ≡ Part → next_of (under ++ x) ≡ Part
-  goes-part e = go (eqb (length under) 0) refl
+  pub goes_part : goes_on under x ≡ Part → next_of (under ++ x) ≡ Part
+  goes_part e = go (eqb (length under) 0) refl
     where
       go : (f : Bool) → eqb (length under) 0 ≡ f → next_of (under ++ x) ≡ Part
       go true f = let n : Nothing ≡ Part = rw f at e in let z : ◌≡◌ {A = ℕ} 0 1 = cc in absurd (omega arith)
       go false f = rw f at e
 
 -- where a section begins that is too long, the payload has one
-pub long-behind : (under x from : List ℕ) → (cut from).long ≡ true → (cut_of under x from).long ≡ true
+pub long_behind : (under x from : List ℕ) → (cut from).long ≡ true → (cut_of under x from).long ≡ true
 unfolding cut_of
-long-behind under x from h = go (goesOn under x) refl (eqb (length from) 0) refl
+long_behind under x from h = go (goes_on under x) refl (eqb (length from) 0) refl
   where
-    go : (k : Next) → goesOn under x ≡ k → (f : Bool) → eqb (length from) 0 ≡ f → (cut_of under x from).long ≡ true
+    go : (k : Next) → goes_on under x ≡ k → (f : Bool) → eqb (length from) 0 ≡ f → (cut_of under x from).long ≡ true
     go Nothing e f g = rw e h
     go Long e f g = rw e
-    go Part e true g = let n : true ≡ false = sym h ∙ cut-none from (eqb-true _ _ g) in let z : ◌≡◌ {A = ℕ} 0 1 = cc in absurd (omega arith)
+    go Part e true g = let n : true ≡ false = sym h ∙ cut_none from (eqb-true _ _ g) in let z : ◌≡◌ {A = ℕ} 0 1 = cc in absurd (omega arith)
     go Part e false g = rw (e, g) h
     go (Complete size) e f g = rw e h
 
 module _ (a : Assembler) (counter first : ℕ) (under x from b : List ℕ) where
-  pub by-long-behind : (cut from).long ≡ true → answering (fed.Refused SectionLengthTooLarge) b ≡ fedBy a counter first under x from b
-  unfolding fedBy
-  by-long-behind h = rw (long-behind under x from h)
+  pub by_long_behind : (cut from).long ≡ true → answering (fed.Refused SectionLengthTooLarge) b ≡ fed_by a counter first under x from b
+  unfolding fed_by
+  by_long_behind h = rw (long_behind under x from h)
 
-  pub by-long : goesOn under x ≡ Long → answering (fed.Refused SectionLengthTooLarge) b ≡ fedBy a counter first under x from b
-  unfolding fedBy cut_of
-  by-long e = rw e
+  pub by_long : goes_on under x ≡ Long → answering (fed.Refused SectionLengthTooLarge) b ≡ fed_by a counter first under x from b
+  unfolding fed_by cut_of
+  by_long e = rw e
 
   module _ (h : (cut from).long ≡ false) where
-    pub by-nothing : goesOn under x ≡ Nothing → answering (fed.Is (record { pid = a.pid; counter = counter; held = 0; at = first })) b ≡ fedBy a counter first under x from b
-    unfolding fedBy cut_of kept
-    by-nothing e = rw (e, h, stored-nil b 0)
+    pub by_nothing : goes_on under x ≡ Nothing → answering (fed.Is (record { pid = a.pid; counter = counter; held = 0; at = first })) b ≡ fed_by a counter first under x from b
+    unfolding fed_by cut_of kept
+    by_nothing e = rw (e, h, stored_nil b 0)
 
     -- "A section that a new start cuts short is dropped"
-    pub by-cut : goesOn under x ≡ Part → (length from ≡ 0 → ⊥)
-        → answering (fed.Is (record { pid = a.pid; counter = counter; held = 0; at = first })) b ≡ fedBy a counter first under x from b
-    unfolding fedBy cut_of kept
-    by-cut e n = rw (e, ne_eqb (length from) 0 n, h, stored-nil b 0)
+    pub by_cut : goes_on under x ≡ Part → (length from ≡ 0 → ⊥)
+        → answering (fed.Is (record { pid = a.pid; counter = counter; held = 0; at = first })) b ≡ fed_by a counter first under x from b
+    unfolding fed_by cut_of kept
+    by_cut e n = rw (e, ne_eqb (length from) 0 n, h, stored_nil b 0)
 
-    pub by_part : goesOn under x ≡ Part → length from ≡ 0 → keeping a counter first (under ++ x) b ≡ fedBy a counter first under x from b
-    unfolding fedBy cut_of kept
+    pub by_part : goes_on under x ≡ Part → length from ≡ 0 → keeping a counter first (under ++ x) b ≡ fed_by a counter first under x from b
+    unfolding fed_by cut_of kept
     by_part e n = rw (e, eq-eqb (length from) 0 n)
 
-    pub by-complete : (size : ℕ) → goesOn under x ≡ Complete size → keeping a counter first (take size (under ++ x)) b ≡ fedBy a counter first under x from b
-    unfolding fedBy cut_of kept
-    by-complete size e = rw (e, h)
+    pub by_complete : (size : ℕ) → goes_on under x ≡ Complete size → keeping a counter first (take size (under ++ x)) b ≡ fed_by a counter first under x from b
+    unfolding fed_by cut_of kept
+    by_complete size e = rw (e, h)
 
 -- ---- the same, as the code has it
 
 module _ (b p : List ℕ) (held at first : ℕ) (h : held ≤ length b) (m : at ≤ first) (f : first ≤ length p) where
-  held-long : length (take held b) ≡ held
-  held-long = length-take-le held b h
+  held_long : length (take held b) ≡ held
+  held_long = length-take-le held b h
 
-  before-long : length (before p at first) ≡ first - at
-  before-long = length-take-le (first - at) (drop at p) (omega (arith, length-drop at p))
+  before_long : length (before p at first) ≡ first - at
+  before_long = length-take-le (first - at) (drop at p) (omega (arith, length-drop at p))
 
-  pub on-long : length (take held b ++ before p at first) ≡ held + (first - at)
-  on-long = length-append (take held b) (before p at first) ∙ omega (arith, held-long, before-long)
+  pub on_long : length (take held b ++ before p at first) ≡ held + (first - at)
+  on_long = length-append (take held b) (before p at first) ∙ omega (arith, held_long, before_long)
 
   -- a section that is whole now ends in the packet
-  pub on-ends : (size : ℕ) → goesOn (take held b) (before p at first) ≡ Complete size → size ≤ held + (first - at)
-  on-ends size e = omega (arith, on-long, (complete-shown (take held b ++ before p at first) size (goes-complete (take held b) (before p at first) size e)).fits)
+  pub on_ends : (size : ℕ) → goes_on (take held b) (before p at first) ≡ Complete size → size ≤ held + (first - at)
+  on_ends size e = omega (arith, on_long, (complete_shown (take held b ++ before p at first) size (goes_complete (take held b) (before p at first) size e)).fits)
 
   module _ (a : Assembler) (counter : ℕ) (n : (cut (drop first p)).long ≡ false) where
-    pub goes_on : goesOn (take held b) (before p at first) ≡ Part → length p ≤ first
+    pub goes_on_lem : goes_on (take held b) (before p at first) ≡ Part → length p ≤ first
         → answering (fed.Is (record { pid = a.pid; counter = counter; held = held + (first - at); at = first })) (stored b held (before p at first))
-        ≡ fedBy a counter first (take held b) (before p at first) (drop first p) b
-    goes_on e l =
-        rw (← stored_on b held h (before p at first), ← on-long)
+        ≡ fed_by a counter first (take held b) (before p at first) (drop first p) b
+    goes_on_lem e l =
+        rw (← stored_on b held h (before p at first), ← on_long)
         (by_part a counter first (take held b) (before p at first) (drop first p) b n e (omega (arith, length-drop first p)))
 
-    pub ends-before : (size : ℕ) → goesOn (take held b) (before p at first) ≡ Complete size → size ≤ held
+    pub ends_before : (size : ℕ) → goes_on (take held b) (before p at first) ≡ Complete size → size ≤ held
         → answering (fed.Is (record { pid = a.pid; counter = counter; held = size; at = first })) b
-        ≡ fedBy a counter first (take held b) (before p at first) (drop first p) b
-    ends-before size e l =
-        let k : take size (take held b ++ before p at first) ≡ take size b = take-append-le size (take held b) (before p at first) (omega (arith, held-long)) ∙ take-take size held b l in
+        ≡ fed_by a counter first (take held b) (before p at first) (drop first p) b
+    ends_before size e l =
+        let k : take size (take held b ++ before p at first) ≡ take size b = take-append-le size (take held b) (before p at first) (omega (arith, held_long)) ∙ take-take size held b l in
         let q : length (take size b) ≡ size = length-take-le size b (omega arith) in
         ap₂ (λ (y : ℕ) (z : List ℕ). answering (fed.Is (record { pid = a.pid; counter = counter; held = y; at = first })) z) (sym q) (sym (stored_same b size (omega arith)))
         ∙ ap (λ (y : List ℕ). keeping a counter first y b) (sym k)
-        ∙ by-complete a counter first (take held b) (before p at first) (drop first p) b n size e
+        ∙ by_complete a counter first (take held b) (before p at first) (drop first p) b n size e
 
-    pub ends-here : (size : ℕ) → goesOn (take held b) (before p at first) ≡ Complete size → held < size
+    pub ends_here : (size : ℕ) → goes_on (take held b) (before p at first) ≡ Complete size → held < size
         → answering (fed.Is (record { pid = a.pid; counter = counter; held = size; at = first })) (stored b held (take (at + (size - held) - at) (drop at p)))
-        ≡ fedBy a counter first (take held b) (before p at first) (drop first p) b
-    ends-here size e l =
-        let i : size - held ≤ first - at = omega (arith, on-ends size e) in
+        ≡ fed_by a counter first (take held b) (before p at first) (drop first p) b
+    ends_here size e l =
+        let i : size - held ≤ first - at = omega (arith, on_ends size e) in
         let j : at + (size - held) - at ≡ size - held = omega arith in
         let t : take (size - held) (before p at first) ≡ take (size - held) (drop at p) = take-take (size - held) (first - at) (drop at p) i in
-        let s : size ≡ length (take held b) + (size - held) = omega (arith, held-long) in
+        let s : size ≡ length (take held b) + (size - held) = omega (arith, held_long) in
         let k : take size (take held b ++ before p at first) ≡ take held b ++ take (size - held) (drop at p) =
         ap (λ (y : ℕ). take y (take held b ++ before p at first)) s ∙ take-append-add (take held b) (before p at first) (size - held) ∙ ap (λ (y : List ℕ). take held b ++ y) t in
         let q : length (take held b ++ take (size - held) (drop at p)) ≡ size =
-        length-append (take held b) (take (size - held) (drop at p)) ∙ omega (arith, held-long, length-take-le (size - held) (drop at p) (omega (arith, length-drop at p))) in
+        length-append (take held b) (take (size - held) (drop at p)) ∙ omega (arith, held_long, length-take-le (size - held) (drop at p) (omega (arith, length-drop at p))) in
         ap₂ (λ (y : ℕ) (z : List ℕ). answering (fed.Is (record { pid = a.pid; counter = counter; held = y; at = first })) z) (sym q)
         (ap (λ (y : ℕ). stored b held (take y (drop at p))) j ∙ sym (stored_on b held h (take (size - held) (drop at p))))
         ∙ ap (λ (y : List ℕ). keeping a counter first y b) (sym k)
-        ∙ by-complete a counter first (take held b) (before p at first) (drop first p) b n size e
+        ∙ by_complete a counter first (take held b) (before p at first) (drop first p) b n size e

@@ -12,15 +12,15 @@ use Rattle.transport.specs.declared.Fed.TheVariants as fed
 use Rattle.transport.specs.declared.Taken.{Taken}
 use Rattle.transport.specs.declared.Taken.TheVariants as taken
 use Rattle.transport_packet.specs.Packet.{head_of}
-use Rattle.transport_packet.specs.Sections.{next_of, byNext}
-use Rattle.transport.specs.Step.{follows, goesOn, cut_of, before}
+use Rattle.transport_packet.specs.Sections.{next_of, by_next}
+use Rattle.transport.specs.Step.{follows, goes_on, cut_of, before}
 
-abbrev pub freshAssembler : ℕ → Assembler
-freshAssembler pid = record { pid = pid; counter = 16; held = 0; at = 188 }
+abbrev pub fresh_assembler : ℕ → Assembler
+fresh_assembler pid = record { pid = pid; counter = 16; held = 0; at = 188 }
 
 -- nothing of the packet is left to take
-abbrev pub atRest : Assembler → Assembler
-atRest a = record { pid = a.pid; counter = a.counter; held = a.held; at = 188 }
+abbrev pub at_rest : Assembler → Assembler
+at_rest a = record { pid = a.pid; counter = a.counter; held = a.held; at = 188 }
 
 abbrev pub holding : Assembler → ℕ → ℕ → Assembler
 holding a held at = record { pid = a.pid; counter = a.counter; held = held; at = at }
@@ -34,7 +34,7 @@ pub record FedTo : Type 0 where
 -- what a payload leaves at the buffer's start: the section under way, now complete or going on
 unfoldable pub kept : List ℕ → List ℕ → List ℕ → List ℕ
 kept under before from =
-    byNext (goesOn under before) [] []
+    by_next (goes_on under before) [] []
     (pick (eqb (length from) 0) (under ++ before) [])
     (λ size. take size (under ++ before))
 
@@ -49,22 +49,22 @@ abbrev pub answering : Fed → List ℕ → FedTo
 answering x b = record { answer = x; buffer = b }
 
 -- the bytes under way for this counter: none after a gap
-abbrev pub underFor : Assembler → ℕ → List ℕ → List ℕ
-underFor a counter b = pick (follows a.counter counter) (take a.held b) []
+abbrev pub under_for : Assembler → ℕ → List ℕ → List ℕ
+under_for a counter b = pick (follows a.counter counter) (take a.held b) []
 
-unfoldable pub fedBy : Assembler → ℕ → ℕ → List ℕ → List ℕ → List ℕ → List ℕ → FedTo
-fedBy a counter first under before from b =
+unfoldable pub fed_by : Assembler → ℕ → ℕ → List ℕ → List ℕ → List ℕ → List ℕ → FedTo
+fed_by a counter first under before from b =
     pick (cut_of under before from).long (answering (fed.Refused SectionLengthTooLarge) b) (keeping a counter first (kept under before from) b)
 
-unfoldable pub fedWith : Assembler → List ℕ → List ℕ → Head → FedTo
-fedWith a p b (head.Refused r) = answering (fed.Refused r) b
-fedWith a p b head.NoPayload = answering (fed.Is (atRest a)) b
-fedWith a p b (head.Payload counter at first) =
-    pick (eqb counter a.counter) (answering (fed.Is (atRest a)) b)
-    (fedBy a counter first (underFor a counter b) (before p at first) (drop first p) b)
+unfoldable pub fed_with : Assembler → List ℕ → List ℕ → Head → FedTo
+fed_with a p b (head.Refused r) = answering (fed.Refused r) b
+fed_with a p b head.NoPayload = answering (fed.Is (at_rest a)) b
+fed_with a p b (head.Payload counter at first) =
+    pick (eqb counter a.counter) (answering (fed.Is (at_rest a)) b)
+    (fed_by a counter first (under_for a counter b) (before p at first) (drop first p) b)
 
-abbrev pub fedOf : Assembler → List ℕ → List ℕ → FedTo
-fedOf a p b = fedWith a p b (head_of a.pid p)
+abbrev pub fed_of : Assembler → List ℕ → List ℕ → FedTo
+fed_of a p b = fed_with a p b (head_of a.pid p)
 
 -- ---- `take`
 
@@ -76,22 +76,22 @@ abbrev pub giving : Taken → List ℕ → TakenTo
 giving x b = record { answer = x; buffer = b }
 
 -- the size of the section that is complete in these bytes; 0 where none is
-abbrev pub completeIn : List ℕ → ℕ
-completeIn s = byNext (next_of s) 0 0 0 (λ size. size)
+abbrev pub complete_in : List ℕ → ℕ
+complete_in s = by_next (next_of s) 0 0 0 (λ size. size)
 
 -- a section of so many bytes, or none, and what is then under way
 abbrev pub found : Assembler → ℕ → ℕ → ℕ → Taken
 found a size held at = pick (eqb size 0) (taken.Done (holding a held at)) (taken.Section size (holding a held at))
 
 -- from the packet, once the buffer has no complete section
-unfoldable pub takenFrom : Assembler → List ℕ → List ℕ → TakenTo
-takenFrom a s b =
-    byNext (next_of s) (giving (taken.Done (atRest a)) b) (giving (taken.Done (atRest a)) b)
+unfoldable pub taken_from : Assembler → List ℕ → List ℕ → TakenTo
+taken_from a s b =
+    by_next (next_of s) (giving (taken.Done (at_rest a)) b) (giving (taken.Done (at_rest a)) b)
     (giving (taken.Done (holding a (length s) 188)) (stored b 0 s))
     (λ size. giving (taken.Section size (holding a 0 (a.at + size))) (stored b 0 (take size s)))
 
 unfoldable pub taken_of : Assembler → List ℕ → List ℕ → TakenTo
 taken_of a p b =
     let s : List ℕ = drop a.at p in
-    byNext (next_of (take a.held b)) (takenFrom a s b) (takenFrom a s b) (takenFrom a s b)
+    by_next (next_of (take a.held b)) (taken_from a s b) (taken_from a s b) (taken_from a s b)
     (λ size. giving (taken.Section size (holding a 0 a.at)) b)

@@ -4,7 +4,7 @@
 // the state, a small value. A section that was taken stands at the buffer's start until the next call.
 ghost use Rattle.std.specs.Prelude.{◌≡◌, ◌≤◌, length, take, drop};
 ghost use Rattle.transport.specs.Step.{follows, before};
-ghost use Rattle.transport.specs.Assembler.{freshAssembler, holding, underFor, fedBy, fedOf, giving, completeIn, found, takenFrom, taken_of};
+ghost use Rattle.transport.specs.Assembler.{fresh_assembler, holding, under_for, fed_by, fed_of, giving, complete_in, found, taken_from, taken_of};
 
 use table::store::put_bytes;
 use transport_packet::packet::{Head, Refusal, read_head};
@@ -38,7 +38,7 @@ pub enum Taken {
 }
 
 pub fn fresh(pid: usize) -> Assembler
-    ensures { result ≡ freshAssembler pid }
+    ensures { result ≡ fresh_assembler pid }
 {
     Assembler {
         pid,
@@ -70,7 +70,7 @@ fn is_next(last: usize, counter: usize) -> bool
 
 // How many bytes are under way for this counter: none after a gap.
 fn held_for(a: Assembler, counter: usize, buffer: &[u8]) -> usize
-    ensures { (result ≤ length buffer.now) × (take result buffer.now ≡ underFor a counter buffer.now) }
+    ensures { (result ≤ length buffer.now) × (take result buffer.now ≡ under_for a counter buffer.now) }
 {
     if is_next(a.counter, counter) {
         return held_in(buffer, a.held);
@@ -110,7 +110,7 @@ fn go_on(
     first: usize,
 ) -> Fed
     requires { (length packet.now ≡ 188) × (at ≤ first) × (first ≤ 188) }
-    ensures { record { answer = result; buffer = buffer.new } ≡ fedBy a counter first (underFor a counter buffer.old) (before packet.now at first) (drop first packet.now) buffer.old }
+    ensures { record { answer = result; buffer = buffer.new } ≡ fed_by a counter first (under_for a counter buffer.old) (before packet.now at first) (drop first packet.now) buffer.old }
 {
     if any_long(packet, first) {
         return Fed::Refused(Refusal::SectionLengthTooLarge);
@@ -140,7 +140,7 @@ fn go_on(
 
 // Takes a packet in: 71 to 75 are tested, and the section under way goes on in the buffer.
 pub fn feed(a: Assembler, packet: &[u8], buffer: &mut [u8]) -> Fed
-    ensures { record { answer = result; buffer = buffer.new } ≡ fedOf a packet.now buffer.old }
+    ensures { record { answer = result; buffer = buffer.new } ≡ fed_of a packet.now buffer.old }
 {
     let head = read_head(a.pid, packet);
     match head {
@@ -166,7 +166,7 @@ struct Found {
 
 // How many bytes the section has that is complete in these at the buffer's start; 0 where none is.
 fn complete_in(buffer: &[u8], held: usize) -> usize
-    ensures { result ≡ completeIn (take held buffer.now) }
+    ensures { result ≡ complete_in (take held buffer.now) }
 {
     let count = held_in(buffer, held);
     let next = next_at(&buffer[..count], 0);
@@ -180,7 +180,7 @@ fn complete_in(buffer: &[u8], held: usize) -> usize
 
 // The next section that begins in the packet.
 fn take_from(a: Assembler, packet: &[u8], buffer: &mut [u8]) -> Found
-    ensures { giving (found a result.size result.held result.at) buffer.new ≡ takenFrom a (drop a.at packet.now) buffer.old }
+    ensures { giving (found a result.size result.held result.at) buffer.new ≡ taken_from a (drop a.at packet.now) buffer.old }
 {
     let at = a.at;
     let next = next_at(packet, at);

@@ -1,6 +1,6 @@
 // The section under way: its first bytes stand in the buffer, and the packet brings those behind them.
 ghost use Rattle.std.specs.Prelude.{◌≡◌, ◌++◌, ◌<◌, ◌≤◌, length, take, drop, get_or};
-ghost use Rattle.transport.specs.Step.{goesOn, before};
+ghost use Rattle.transport.specs.Step.{goes_on, before};
 
 use table::numbers::byte;
 use transport_packet::sections::{Next, length_of, next_by};
@@ -19,7 +19,7 @@ fn byte_on(buffer: &[u8], held: usize, packet: &[u8], at: usize, i: usize) -> u8
 // The section under way, if there is one, and the packet's bytes from `at` to `first` behind it.
 pub(crate) fn next_on(buffer: &[u8], held: usize, packet: &[u8], at: usize, first: usize) -> Next
     requires { (held ≤ length buffer.now) × (at ≤ first) × (first ≤ length packet.now) × (first < 4096) }
-    ensures { result ≡ goesOn (take held buffer.now) (before packet.now at first) }
+    ensures { result ≡ goes_on (take held buffer.now) (before packet.now at first) }
 {
     if held == 0 {
         return Next::Nothing;

@@ -17,45 +17,45 @@ use Rattle.transport.specs.declared.Fed.{Fed}
 use Rattle.transport.specs.declared.Fed.TheVariants as fed
 use Rattle.transport_packet.specs.Packet.{head_of}
 use Rattle.transport_packet.specs.Sections.{Cut}
-use Rattle.transport.specs.Step.{Told, told, cut_of, before, tellsOf, step_of}
+use Rattle.transport.specs.Step.{Told, told, cut_of, before, tells_of, step_of}
 use Rattle.transport.specs.Step.Told.{refused, took}
-use Rattle.transport.specs.Assembler.{FedTo, atRest, answering, keeping, kept, underFor, fedBy, fedOf}
-use Rattle.transport_laws.specs.Takes.{Takes, takesOf, Ends, state_of, CodeStep, CodeGives, Ready}
+use Rattle.transport.specs.Assembler.{FedTo, at_rest, answering, keeping, kept, under_for, fed_by, fed_of}
+use Rattle.transport_laws.specs.Takes.{Takes, takes_of, Ends, state_of, CodeStep, CodeGives, Ready}
 use Rattle.transport_laws.specs.Takes.CodeStep.{refuses, takes}
 use Rattle.transport_laws.specs.Takes.CodeGives.{over, packet}
-use Rattle.transport_laws.specs.Runs.{stateAfter, sectionsIn, given}
-use Rattle.transport_packet.proofs.Heads.{Placed, payload-placed, none-placed}
-use Rattle.transport.proofs.Answers.{fed-refused, fed-none, fed-repeat, fed-goes}
-use Rattle.transport_laws.proofs.Takes.{Leaves, rests, kept-taken}
-use Rattle.transport_laws.proofs.Ends.{take_ends, ends-one}
-use Rattle.transport_laws.proofs.Runs.{step-settles}
+use Rattle.transport_laws.specs.Runs.{state_after, sections_in, given}
+use Rattle.transport_packet.proofs.Heads.{Placed, payload_placed, none_placed}
+use Rattle.transport.proofs.Answers.{fed_refused, fed_none, fed_repeat, fed_goes}
+use Rattle.transport_laws.proofs.Takes.{Leaves, rests, kept_taken_lem}
+use Rattle.transport_laws.proofs.Ends.{take_ends, ends_one}
+use Rattle.transport_laws.proofs.Runs.{step_settles}
 
 -- A packet: refused by both, and neither changes anything; or taken by both, with the same sections and the same state after them.
 pub data Agrees (a : Assembler) (p b : List ℕ) : Type 0 where
-  both-refuse : {r : Refusal} → fedOf a p b ≡ answering (fed.Refused r) b → step_of a.pid (state_of a b) p ≡ refused r → Agrees a p b
-  both-take :
+  both_refuse : {r : Refusal} → fed_of a p b ≡ answering (fed.Refused r) b → step_of a.pid (state_of a b) p ≡ refused r → Agrees a p b
+  both_take :
       {later : Assembler} {b' : List ℕ} {t : Takes}
-      → fedOf a p b ≡ answering (fed.Is later) b' → takesOf 190 later p b' ≡ t → step_of a.pid (state_of a b) p ≡ took (state_of t.assembler t.buffer) t.sections
+      → fed_of a p b ≡ answering (fed.Is later) b' → takes_of 190 later p b' ≡ t → step_of a.pid (state_of a b) p ≡ took (state_of t.assembler t.buffer) t.sections
       → t.assembler.pid ≡ a.pid → length t.buffer ≡ length b → length p ≡ 188 → Agrees a p b
 
-not-refused : {r : Refusal} {l : Assembler} {b c : List ℕ} → answering (fed.Refused r) b ≡ answering (fed.Is l) c → ⊥
-not-refused {r = r} {l = l} e = let q : fed.Refused r ≡ fed.Is l = ap (λ (y : FedTo). y.answer) e in let z : ◌≡◌ {A = ℕ} 0 1 = cc in omega arith
+not_refused : {r : Refusal} {l : Assembler} {b c : List ℕ} → answering (fed.Refused r) b ≡ answering (fed.Is l) c → ⊥
+not_refused {r = r} {l = l} e = let q : fed.Refused r ≡ fed.Is l = ap (λ (y : FedTo). y.answer) e in let z : ◌≡◌ {A = ℕ} 0 1 = cc in omega arith
 
 module _ (a : Assembler) (p b : List ℕ) (ready : Ready a b) where
-  at_rest : length p ≡ 188 → fedOf a p b ≡ answering (fed.Is (atRest a)) b → step_of a.pid (state_of a b) p ≡ took (state_of a b) [] → Agrees a p b
-  at_rest n e s = both-take e (rests 189 a p b ready.settled n) s refl refl n
+  at_rest_lem : length p ≡ 188 → fed_of a p b ≡ answering (fed.Is (at_rest a)) b → step_of a.pid (state_of a b) p ≡ took (state_of a b) [] → Agrees a p b
+  at_rest_lem n e s = both_take e (rests 189 a p b ready.settled n) s refl refl n
 
   keeps : length p ≡ 188 → (counter first : ℕ) (bytes : List ℕ) (c : Cut) → c.long ≡ false
-      → fedOf a p b ≡ keeping a counter first bytes b
+      → fed_of a p b ≡ keeping a counter first bytes b
       → step_of a.pid (state_of a b) p ≡ told counter c
-      → Leaves (takesOf 190 (record { pid = a.pid; counter = counter; held = length bytes; at = first }) p (stored b 0 bytes))
+      → Leaves (takes_of 190 (record { pid = a.pid; counter = counter; held = length bytes; at = first }) p (stored b 0 bytes))
       (record { pid = a.pid; counter = counter; held = length bytes; at = first }) b c
       → Agrees a p b
   keeps complete counter first bytes c l e s v =
-      both-take
+      both_take
       {later = record { pid = a.pid; counter = counter; held = length bytes; at = first }}
       {b' = stored b 0 bytes}
-      {t = takesOf 190 (record { pid = a.pid; counter = counter; held = length bytes; at = first }) p (stored b 0 bytes)}
+      {t = takes_of 190 (record { pid = a.pid; counter = counter; held = length bytes; at = first }) p (stored b 0 bytes)}
       e
       refl
       (s ∙ rw l (ap₂ took (ap₂ (λ (y : ℕ) (z : List ℕ). record { counter = y; under = z }) (sym v.counter) (sym v.under)) (sym v.sections)))
@@ -63,86 +63,86 @@ module _ (a : Assembler) (p b : List ℕ) (ready : Ready a b) where
       v.room
       complete
 
-  goes_on : (counter at first : ℕ) → head_of a.pid p ≡ Payload counter at first → (counter ≡ a.counter → ⊥) → Agrees a p b
-  unfolding fedBy tellsOf
-  goes_on counter at first h n = go (cut_of (underFor a counter b) (before p at first) (drop first p)).long refl
+  goes_on_lem : (counter at first : ℕ) → head_of a.pid p ≡ Payload counter at first → (counter ≡ a.counter → ⊥) → Agrees a p b
+  unfolding fed_by tells_of
+  goes_on_lem counter at first h n = go (cut_of (under_for a counter b) (before p at first) (drop first p)).long refl
     where
-      s : step_of a.pid (state_of a b) p ≡ told counter (cut_of (underFor a counter b) (before p at first) (drop first p))
+      s : step_of a.pid (state_of a b) p ≡ told counter (cut_of (under_for a counter b) (before p at first) (drop first p))
       s = rw (h, ne_eqb counter a.counter n)
 
-      go : (l : Bool) → (cut_of (underFor a counter b) (before p at first) (drop first p)).long ≡ l → Agrees a p b
-      go true l = both-refuse {r = SectionLengthTooLarge} (fed-goes a p b counter at first h n ∙ rw l) (s ∙ rw l)
+      go : (l : Bool) → (cut_of (under_for a counter b) (before p at first) (drop first p)).long ≡ l → Agrees a p b
+      go true l = both_refuse {r = SectionLengthTooLarge} (fed_goes a p b counter at first h n ∙ rw l) (s ∙ rw l)
       go false l =
-          let w : Placed p counter at first = payload-placed a.pid p counter at first h in
-          keeps w.complete counter first (kept (underFor a counter b) (before p at first) (drop first p)) (cut_of (underFor a counter b) (before p at first) (drop first p)) l
-          (fed-goes a p b counter at first h n ∙ rw l)
+          let w : Placed p counter at first = payload_placed a.pid p counter at first h in
+          keeps w.complete counter first (kept (under_for a counter b) (before p at first) (drop first p)) (cut_of (under_for a counter b) (before p at first) (drop first p)) l
+          (fed_goes a p b counter at first h n ∙ rw l)
           s
-          (kept-taken a counter first (underFor a counter b) (before p at first) p b (omega (arith, length-drop first p, w.complete)) ready.room l)
+          (kept_taken_lem a counter first (under_for a counter b) (before p at first) p b (omega (arith, length-drop first p, w.complete)) ready.room l)
 
   pub agrees : Agrees a p b
-  unfolding tellsOf
-  agrees = byHead (head_of a.pid p) refl
+  unfolding tells_of
+  agrees = by_head (head_of a.pid p) refl
     where
-      byHead : (k : Head) → head_of a.pid p ≡ k → Agrees a p b
-      byHead (Refused r) h = both-refuse (fed-refused a p b r h) (rw h)
-      byHead NoPayload h = at_rest (none-placed a.pid p h) (fed-none a p b h) (rw h)
-      byHead (Payload counter at first) h = byRepeat (eqb counter a.counter) refl
+      by_head : (k : Head) → head_of a.pid p ≡ k → Agrees a p b
+      by_head (Refused r) h = both_refuse (fed_refused a p b r h) (rw h)
+      by_head NoPayload h = at_rest_lem (none_placed a.pid p h) (fed_none a p b h) (rw h)
+      by_head (Payload counter at first) h = by_repeat (eqb counter a.counter) refl
         where
-          byRepeat : (f : Bool) → eqb counter a.counter ≡ f → Agrees a p b
-          byRepeat true f = at_rest (payload-placed a.pid p counter at first h).complete (fed-repeat a p b counter at first h (eqb-true _ _ f)) (rw (h, f))
-          byRepeat false f = goes_on counter at first h (eqb-false _ _ f)
+          by_repeat : (f : Bool) → eqb counter a.counter ≡ f → Agrees a p b
+          by_repeat true f = at_rest_lem (payload_placed a.pid p counter at first h).complete (fed_repeat a p b counter at first h (eqb-true _ _ f)) (rw (h, f))
+          by_repeat false f = goes_on_lem counter at first h (eqb-false _ _ f)
 
   -- `feed`, and `take` until it is done, are the step
   pub record IsStep (x : Told) (a' : Assembler) (b' : List ℕ) : Type 0 where
     pub told : x ≡ step_of a.pid (state_of a b) p
-    pub state : state_of a' b' ≡ stateAfter (state_of a b) x
+    pub state : state_of a' b' ≡ state_after (state_of a b) x
     pub pid : a'.pid ≡ a.pid
     pub still : Ready a' b'
 
-  pub is-step : (x : Told) (a' : Assembler) (b' : List ℕ) → CodeStep a p b x a' b' → IsStep x a' b'
-  is-step x a' b' c = go x a' b' agrees c
+  pub is_step : (x : Told) (a' : Assembler) (b' : List ℕ) → CodeStep a p b x a' b' → IsStep x a' b'
+  is_step x a' b' c = go x a' b' agrees c
     where
       go : (x : Told) (a' : Assembler) (b' : List ℕ) → Agrees a p b → CodeStep a p b x a' b' → IsStep x a' b'
-      go x a' b' (both-refuse {r = r} e s) (refuses {b' = d} {r = k} f) =
+      go x a' b' (both_refuse {r = r} e s) (refuses {b' = d} {r = k} f) =
           let q : fed.Refused k ≡ fed.Refused r = ap (λ (y : FedTo). y.answer) (sym f ∙ e) in
           let g : k ≡ r = cc in
           let h : d ≡ b = ap (λ (y : FedTo). y.buffer) (sym f ∙ e) in
           record { told = ap refused g ∙ sym s; state = rw h; pid = refl; still = rw h ready }
-      go x a' b' (both-refuse e s) (takes f y) = absurd (not-refused (sym e ∙ f))
-      go x a' b' (both-take e t s q r n) (refuses f) = absurd (not-refused (sym f ∙ e))
-      go x a' b' (both-take {later = l} {b' = d} {t = u} e t s q r n) (takes {later = k} {b' = c} {t = w} f y) =
+      go x a' b' (both_refuse e s) (takes f y) = absurd (not_refused (sym e ∙ f))
+      go x a' b' (both_take e t s q r n) (refuses f) = absurd (not_refused (sym f ∙ e))
+      go x a' b' (both_take {later = l} {b' = d} {t = u} e t s q r n) (takes {later = k} {b' = c} {t = w} f y) =
           let z : fed.Is l ≡ fed.Is k = ap (λ (y : FedTo). y.answer) (sym e ∙ f) in
           let g : l ≡ k = cc in
           let h : d ≡ c = ap (λ (y : FedTo). y.buffer) (sym e ∙ f) in
           let o : Ends l p d w = rw (g, h) y in
-          let i : w ≡ u = ends-one o (take_ends 189 l p d (omega (arith, length-drop l.at p, n))) ∙ t in
+          let i : w ≡ u = ends_one o (take_ends 189 l p d (omega (arith, length-drop l.at p, n))) ∙ t in
           rw i
           (record {
             told = sym s;
             state = refl;
             pid = q;
-            still = record { room = omega (arith, ready.room, r); settled = step-settles a.pid p (state_of a b) (state_of u.assembler u.buffer) u.sections ready.settled s };
+            still = record { room = omega (arith, ready.room, r); settled = step_settles a.pid p (state_of a b) (state_of u.assembler u.buffer) u.sections ready.settled s };
           })
 
 -- packets one after the other
-pub code-given : (ps ss : List (List ℕ)) (a : Assembler) (b : List ℕ) → Ready a b → CodeGives a b ps ss → ss ≡ given a.pid (state_of a b) ps
+pub code_given : (ps ss : List (List ℕ)) (a : Assembler) (b : List ℕ) → Ready a b → CodeGives a b ps ss → ss ≡ given a.pid (state_of a b) ps
 unfolding given
-code-given [] ss a b ready over = refl
-code-given (p ∷ ps) ss a b ready (packet {a' = a'} {b' = b'} {x = x} {ss = more} c g) =
-    let i : IsStep a p b ready x a' b' = is-step a p b ready x a' b' c in
-    let e : more ≡ given a'.pid (state_of a' b') ps = code-given ps more a' b' i.still g in
+code_given [] ss a b ready over = refl
+code_given (p ∷ ps) ss a b ready (packet {a' = a'} {b' = b'} {x = x} {ss = more} c g) =
+    let i : IsStep a p b ready x a' b' = is_step a p b ready x a' b' c in
+    let e : more ≡ given a'.pid (state_of a' b') ps = code_given ps more a' b' i.still g in
     rw (e, i.pid, i.state, i.told)
 
 -- ---- and there is such a run, from any state
 
 pub code_runs : (a : Assembler) (p b : List ℕ) → (x : Told) × (a' : Assembler) × (b' : List ℕ) × CodeStep a p b x a' b'
-code_runs a p b = go (fedOf a p b).answer refl
+code_runs a p b = go (fed_of a p b).answer refl
   where
-    go : (k : Fed) → (fedOf a p b).answer ≡ k → (x : Told) × (a' : Assembler) × (b' : List ℕ) × CodeStep a p b x a' b'
-    go (fed.Refused r) e = (refused r, a, (fedOf a p b).buffer, refuses (ap (λ (y : Fed). answering y (fedOf a p b).buffer) e))
+    go : (k : Fed) → (fed_of a p b).answer ≡ k → (x : Told) × (a' : Assembler) × (b' : List ℕ) × CodeStep a p b x a' b'
+    go (fed.Refused r) e = (refused r, a, (fed_of a p b).buffer, refuses (ap (λ (y : Fed). answering y (fed_of a p b).buffer) e))
     go (fed.Is later) e =
-        let d = (fedOf a p b).buffer in
-        let t = takesOf (suc (suc (length (drop later.at p)))) later p d in (
+        let d = (fed_of a p b).buffer in
+        let t = takes_of (suc (suc (length (drop later.at p)))) later p d in (
           took (state_of t.assembler t.buffer) t.sections,
           t.assembler,
           t.buffer,
@@ -154,4 +154,4 @@ code_gives [] a b = ([], over)
 code_gives (p ∷ ps) a b =
     let r = code_runs a p b in
     let m = code_gives ps r.1 r.2 in
-    (sectionsIn r.0 ++ m.0, packet r.3 m.1)
+    (sections_in r.0 ++ m.0, packet r.3 m.1)

@@ -4,7 +4,7 @@ use Rattle.table.specs.Bits.{pick}
 use Rattle.transport_packet.specs.declared.packet.Head.{Head}
 use Rattle.transport_packet.specs.declared.packet.Head.TheVariants.{Refused, NoPayload, Payload}
 use Rattle.transport_packet.specs.Packet.{head_of}
-use Rattle.transport_packet.specs.Sections.{next_of, byNext, Right}
+use Rattle.transport_packet.specs.Sections.{next_of, by_next, Right}
 use Rattle.transport.specs.Step.{follows, before}
 
 -- ---- the payloads
@@ -45,10 +45,10 @@ pub record Runs : Type 0 where
   pub lead : List ℕ
   pub runs : List Run
 
-unfoldable pub runsOf : List Load → Runs
-runsOf [] = record { lead = []; runs = [] }
-runsOf (x ∷ xs) =
-    let r : Runs = runsOf xs in
+unfoldable pub runs_of : List Load → Runs
+runs_of [] = record { lead = []; runs = [] }
+runs_of (x ∷ xs) =
+    let r : Runs = runs_of xs in
     pick (eqb (length x.from) 0) (record { lead = x.lead ++ r.lead; runs = r.runs })
     (record { lead = x.lead; runs = record { head = x.from; rest = r.lead } ∷ r.runs })
 
@@ -56,19 +56,19 @@ runsOf (x ∷ xs) =
 
 -- A section begins at the pointer's target, and where one ends, in the packet of that pointer and before stuffing.
 -- n is any number from the count of the head's bytes on: it says that this ends.
-unfoldable pub sectionsFrom : ℕ → List ℕ → List ℕ → List (List ℕ)
-sectionsFrom zero head rest = []
-sectionsFrom (suc n) head rest =
+unfoldable pub sections_from : ℕ → List ℕ → List ℕ → List (List ℕ)
+sections_from zero head rest = []
+sections_from (suc n) head rest =
     pick (eqb (length head) 0) []
-    (byNext (next_of (head ++ rest)) [] [] [] (λ size. take size (head ++ rest) ∷ sectionsFrom n (drop size head) rest))
+    (by_next (next_of (head ++ rest)) [] [] [] (λ size. take size (head ++ rest) ∷ sections_from n (drop size head) rest))
 
-unfoldable pub sectionsOf : List Run → List (List ℕ)
-sectionsOf [] = []
-sectionsOf (r ∷ rs) = sectionsFrom (length r.head) r.head r.rest ++ sectionsOf rs
+unfoldable pub sections_of : List Run → List (List ℕ)
+sections_of [] = []
+sections_of (r ∷ rs) = sections_from (length r.head) r.head r.rest ++ sections_of rs
 
 -- the sections of the concatenation
 abbrev pub concatenation : List Load → List (List ℕ)
-concatenation xs = sectionsOf (runsOf xs).runs
+concatenation xs = sections_of (runs_of xs).runs
 
 abbrev pub concatenated : ℕ → List (List ℕ) → List (List ℕ)
 concatenated pid ps = concatenation (unrepeated 16 (payloads pid ps))
@@ -80,15 +80,15 @@ pub record Spans : Type 0 where
   pub others : List (List Load)
 
 -- `last` is the counter of the payload before
-unfoldable pub spansOf : ℕ → List Load → Spans
-spansOf last [] = record { first = []; others = [] }
-spansOf last (x ∷ xs) =
-    let r : Spans = spansOf x.counter xs in
+unfoldable pub spans_of : ℕ → List Load → Spans
+spans_of last [] = record { first = []; others = [] }
+spans_of last (x ∷ xs) =
+    let r : Spans = spans_of x.counter xs in
     pick (follows last x.counter) (record { first = x ∷ r.first; others = r.others }) (record { first = []; others = (x ∷ r.first) ∷ r.others })
 
 -- the payloads of packets, repeats left out, cut at the gaps
 abbrev pub spans : ℕ → List (List ℕ) → Spans
-spans pid ps = spansOf 16 (unrepeated 16 (payloads pid ps))
+spans pid ps = spans_of 16 (unrepeated 16 (payloads pid ps))
 
 -- the sections of each concatenation, one after the other
 unfoldable pub spanned : List (List Load) → List (List ℕ)
@@ -97,9 +97,9 @@ spanned (xs ∷ xss) = concatenation xs ++ spanned xss
 
 -- ---- what is claimed of the cutting
 
-unfoldable pub runsJoined : List Run → List ℕ
-runsJoined [] = []
-runsJoined (r ∷ rs) = r.head ++ r.rest ++ runsJoined rs
+unfoldable pub runs_joined : List Run → List ℕ
+runs_joined [] = []
+runs_joined (r ∷ rs) = r.head ++ r.rest ++ runs_joined rs
 
 unfoldable pub flat : List (List ℕ) → List ℕ
 flat [] = []

@@ -4,13 +4,13 @@ use Rattle.transport.specs.Step.{State, fresh, Told, step_of}
 use Rattle.transport.specs.Step.Told.{refused, took}
 use Rattle.transport_laws.specs.Concatenation.{spans}
 
-abbrev pub stateAfter : State → Told → State
-stateAfter s (refused r) = s
-stateAfter s (took later sections) = later
+abbrev pub state_after : State → Told → State
+state_after s (refused r) = s
+state_after s (took later sections) = later
 
-abbrev pub sectionsIn : Told → List (List ℕ)
-sectionsIn (refused r) = []
-sectionsIn (took later sections) = sections
+abbrev pub sections_in : Told → List (List ℕ)
+sections_in (refused r) = []
+sections_in (took later sections) = sections
 
 abbrev pub accepting : List ℕ → Told → List (List ℕ) → List (List ℕ)
 accepting p (refused r) ps = ps
@@ -19,12 +19,12 @@ accepting p (took later sections) ps = p ∷ ps
 -- all sections given
 unfoldable pub given : ℕ → State → List (List ℕ) → List (List ℕ)
 given pid s [] = []
-given pid s (p ∷ ps) = sectionsIn (step_of pid s p) ++ given pid (stateAfter s (step_of pid s p)) ps
+given pid s (p ∷ ps) = sections_in (step_of pid s p) ++ given pid (state_after s (step_of pid s p)) ps
 
 -- the packets that are not refused: "A refused packet changes no state"
 unfoldable pub accepted : ℕ → State → List (List ℕ) → List (List ℕ)
 accepted pid s [] = []
-accepted pid s (p ∷ ps) = accepting p (step_of pid s p) (accepted pid (stateAfter s (step_of pid s p)) ps)
+accepted pid s (p ∷ ps) = accepting p (step_of pid s p) (accepted pid (state_after s (step_of pid s p)) ps)
 
 -- no packet is refused
 pub data Unrefused (pid : ℕ) : State → List (List ℕ) → Type 0 where
@@ -36,4 +36,4 @@ pub data Unrefused (pid : ℕ) : State → List (List ℕ) → Type 0 where
 -- "Without gaps or refused packets"
 pub record Clean (pid : ℕ) (ps : List (List ℕ)) : Type 0 where
   pub unrefused : Unrefused pid fresh ps
-  pub noGap : (spans pid ps).others ≡ []
+  pub no_gap : (spans pid ps).others ≡ []

@@ -7,8 +7,8 @@ use Rattle.transport.specs.declared.Taken.{Taken}
 use Rattle.transport.specs.declared.Taken.TheVariants.{Section, Done}
 use Rattle.transport.specs.Step.{State, Settled, Told}
 use Rattle.transport.specs.Step.Told.{refused, took}
-use Rattle.transport.specs.Assembler.{answering, fedOf, TakenTo, giving, taken_of}
-use Rattle.transport_laws.specs.Runs.{sectionsIn}
+use Rattle.transport.specs.Assembler.{answering, fed_of, TakenTo, giving, taken_of}
+use Rattle.transport_laws.specs.Runs.{sections_in}
 
 -- the sections, each as the buffer has it when it is handed out; and what is left
 pub record Takes : Type 0 where
@@ -26,9 +26,9 @@ taking t more = go t.answer
         record { sections = take size t.buffer ∷ m.sections; assembler = m.assembler; buffer = m.buffer }
 
 -- n is any number from the packet's bytes and two on: it says that this ends
-unfoldable pub takesOf : ℕ → Assembler → List ℕ → List ℕ → Takes
-takesOf zero a p b = record { sections = []; assembler = a; buffer = b }
-takesOf (suc n) a p b = taking (taken_of a p b) (λ later buffer. takesOf n later p buffer)
+unfoldable pub takes_of : ℕ → Assembler → List ℕ → List ℕ → Takes
+takes_of zero a p b = record { sections = []; assembler = a; buffer = b }
+takes_of (suc n) a p b = taking (taken_of a p b) (λ later buffer. takes_of n later p buffer)
 
 -- the same without a number (`Take-ends` in proofs/Ends.antt): what `take` gives until it says that it is done
 pub data Ends : Assembler → List ℕ → List ℕ → Takes → Type 0 where
@@ -43,9 +43,9 @@ state_of a b = record { counter = a.counter; under = take a.held b }
 
 -- what `feed` and then `take` until it is done do with a packet: what is told, and the state and the buffer after it
 pub data CodeStep : Assembler → List ℕ → List ℕ → Told → Assembler → List ℕ → Type 0 where
-  refuses : {a : Assembler} {p b b' : List ℕ} {r : Refusal} → fedOf a p b ≡ answering (fed.Refused r) b' → CodeStep a p b (refused r) a b'
+  refuses : {a : Assembler} {p b b' : List ℕ} {r : Refusal} → fed_of a p b ≡ answering (fed.Refused r) b' → CodeStep a p b (refused r) a b'
   takes :
-      {a later : Assembler} {p b b' : List ℕ} {t : Takes} → fedOf a p b ≡ answering (fed.Is later) b' → Ends later p b' t
+      {a later : Assembler} {p b b' : List ℕ} {t : Takes} → fed_of a p b ≡ answering (fed.Is later) b' → Ends later p b' t
       → CodeStep a p b (took (state_of t.assembler t.buffer) t.sections) t.assembler t.buffer
 
 -- all sections that the code gives of packets one after the other
@@ -53,7 +53,7 @@ pub data CodeGives : Assembler → List ℕ → List (List ℕ) → List (List �
   over : {a : Assembler} {b : List ℕ} → CodeGives a b [] []
   packet :
       {a a' : Assembler} {p b b' : List ℕ} {x : Told} {ps ss : List (List ℕ)} → CodeStep a p b x a' b' → CodeGives a' b' ps ss
-      → CodeGives a b (p ∷ ps) (sectionsIn x ++ ss)
+      → CodeGives a b (p ∷ ps) (sections_in x ++ ss)
 
 -- a state that packets lead to, and the room that was asked for
 pub record Ready (a : Assembler) (b : List ℕ) : Type 0 where

@@ -17,32 +17,32 @@ number_of SectionLengthTooLarge = 75
 -- ---- the fields
 
 -- 13 bits
-abbrev pub pidOf : List ℕ → ℕ
-pidOf p = get_or p 1 0 % 32 * 256 + get_or p 2 0
+abbrev pub pid_of : List ℕ → ℕ
+pid_of p = get_or p 1 0 % 32 * 256 + get_or p 2 0
 
-abbrev pub payloadUnitStart : List ℕ → ℕ
-payloadUnitStart p = get_or p 1 0 / 64 % 2
+abbrev pub payload_unit_start : List ℕ → ℕ
+payload_unit_start p = get_or p 1 0 / 64 % 2
 
-abbrev pub scramblingControl : List ℕ → ℕ
-scramblingControl p = get_or p 3 0 / 64
+abbrev pub scrambling_control : List ℕ → ℕ
+scrambling_control p = get_or p 3 0 / 64
 
 -- adaptation_field_control's two bits: an adaptation field is there, a payload is there
-abbrev pub hasAdaptation : List ℕ → ℕ
-hasAdaptation p = get_or p 3 0 / 32 % 2
+abbrev pub has_adaptation : List ℕ → ℕ
+has_adaptation p = get_or p 3 0 / 32 % 2
 
-abbrev pub hasPayload : List ℕ → ℕ
-hasPayload p = get_or p 3 0 / 16 % 2
+abbrev pub has_payload : List ℕ → ℕ
+has_payload p = get_or p 3 0 / 16 % 2
 
-abbrev pub counterOf : List ℕ → ℕ
-counterOf p = get_or p 3 0 % 16
+abbrev pub counter_of : List ℕ → ℕ
+counter_of p = get_or p 3 0 % 16
 
 -- the first byte behind the header and the adaptation field, whose length does not count its own byte
-unfoldable pub payloadAt : List ℕ → ℕ
-payloadAt p = pick (eqb (hasAdaptation p) 1) (5 + get_or p 4 0) 4
+unfoldable pub payload_at : List ℕ → ℕ
+payload_at p = pick (eqb (has_adaptation p) 1) (5 + get_or p 4 0) 4
 
 -- where the pointer_field points: it counts from the byte behind itself
 abbrev pub target : List ℕ → ℕ
-target p = payloadAt p + 1 + get_or p (payloadAt p) 0
+target p = payload_at p + 1 + get_or p (payload_at p) 0
 
 -- ---- "Refusals in order"
 
@@ -57,13 +57,13 @@ head_of pid p =
     unless (eqb (length p) 188) NotAPacket
     (unless (eqb (get_or p 0 0) 71) NotAPacket
     -- 72 "another PID"
-    (unless (eqb (pidOf p) pid) OtherPid
+    (unless (eqb (pid_of p) pid) OtherPid
     -- 73 "scrambled"
-    (unless (eqb (scramblingControl p) 0) Scrambled
+    (unless (eqb (scrambling_control p) 0) Scrambled
     -- 74 "adaptation field past the packet's end or leaving no byte of an announced payload"
-    (unless (leb (payloadAt p + hasPayload p) 188) PayloadOutside
-    (pick (eqb (hasPayload p) 0) NoPayload
-    (pick (eqb (payloadUnitStart p) 0) (Payload (counterOf p) (payloadAt p) 188)
+    (unless (leb (payload_at p + has_payload p) 188) PayloadOutside
+    (pick (eqb (has_payload p) 0) NoPayload
+    (pick (eqb (payload_unit_start p) 0) (Payload (counter_of p) (payload_at p) 188)
     -- 74 "or a pointer to byte 188 or past it"
     (unless (ltb (target p) 188) PayloadOutside
-    (Payload (counterOf p) (payloadAt p + 1) (target p)))))))))
+    (Payload (counter_of p) (payload_at p + 1) (target p)))))))))

@@ -1,6 +1,6 @@
 // A transport packet's head, and refusals 71 to 74.
 ghost use Rattle.std.specs.Prelude.{◌≡◌, ◌<◌, ◌≤◌, length};
-ghost use Rattle.transport_packet.specs.Packet.{head_of, payloadAt};
+ghost use Rattle.transport_packet.specs.Packet.{head_of, payload_at};
 
 use table::numbers::size;
 
@@ -29,7 +29,7 @@ pub enum Head {
 // Where the payload's bytes would begin.
 fn payload_at(packet: &[u8]) -> usize
     requires { 5 ≤ length packet.now }
-    ensures { (result ≡ payloadAt packet.now) × (result < 261) }
+    ensures { (result ≡ payload_at packet.now) × (result < 261) }
 {
     if packet[3] / 32 % 2 == 1 {
         return 5 + size(packet[4]);

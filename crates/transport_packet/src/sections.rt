@@ -1,6 +1,6 @@
 // Where a section ends.
 ghost use Rattle.std.specs.Prelude.{◌≡◌, ◌+◌, ◌*◌, ◌%◌, ◌<◌, drop};
-ghost use Rattle.transport_packet.specs.Sections.{nextBy, next_of, cut};
+ghost use Rattle.transport_packet.specs.Sections.{next_by, next_of, cut};
 
 // What stands where a section would begin: no byte or stuffing; a section_length over 4,093; a section that goes on behind the bytes; or a
 // complete one, of so many bytes.
@@ -14,7 +14,7 @@ pub enum Next {
 
 // So many bytes, of which this is the first, and this their section_length if three are there.
 pub fn next_by(count: usize, first: u8, len: usize) -> Next
-    ensures { result ≡ nextBy count first len }
+    ensures { result ≡ next_by count first len }
 {
     if count == 0 {
         return Next::Nothing;

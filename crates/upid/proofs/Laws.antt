@@ -12,7 +12,7 @@ use lib.Dec.{ltb, eqb}
 use lib.ListN.{length, take, drop, length-append, length-take, length-drop}
 use borrow.Author.Tests.{ltb-true, ltb-false, ne_eqb}
 use Rattle.upid.specs.Private.{Accepted}
-use Rattle.upid.specs.Upid.{◌then◌, walk_of, read_of, parts_of, list_of, plain_of, reportedOf}
+use Rattle.upid.specs.Upid.{◌then◌, walk_of, read_of, parts_of, list_of, plain_of, reported_of}
 use Rattle.upid.specs.declared.Part.{Part}
 use Rattle.upid.specs.declared.Refusal.{Refusal}
 use Rattle.upid.specs.declared.Refusal.TheVariants.{NotEnoughData}
@@ -20,19 +20,19 @@ use Rattle.upid.specs.declared.UpidRead.{UpidRead}
 use Rattle.upid.specs.declared.UpidRead.TheVariants.{Fine, Refused}
 
 -- what a definition gives at a number, it gives at what equals that number
-pub at-number : {A : Type 0} (f : ℕ → A) {v : A} (k n : ℕ) → f n ≡ v → k ≡ n → v ≡ f k
-at-number f k n e h = sym (ap f h ∙ e)
+pub at_number : {A : Type 0} (f : ℕ → A) {v : A} (k n : ℕ) → f n ≡ v → k ≡ n → v ≡ f k
+at_number f k n e h = sym (ap f h ∙ e)
 
 -- ---- the number that says that the reading ends
 
-walk-nil : (m start : ℕ) → walk_of m start [] ≡ Fine 13
+walk_nil : (m start : ℕ) → walk_of m start [] ≡ Fine 13
 unfolding walk_of
-walk-nil zero start = refl
-walk-nil (suc m) start = refl
+walk_nil zero start = refl
+walk_nil (suc m) start = refl
 
 pub walk_any : (n m start : ℕ) (bytes : List ℕ) → length bytes ≤ n → length bytes ≤ m → walk_of n start bytes ≡ walk_of m start bytes
 unfolding walk_of
-walk_any zero m start [] hn hm = sym (walk-nil m start)
+walk_any zero m start [] hn hm = sym (walk_nil m start)
 walk_any zero m start (k ∷ r) hn hm = absurd (omega arith)
 walk_any (suc n) zero start [] hn hm = refl
 walk_any (suc n) zero start (k ∷ r) hn hm = absurd (omega arith)
@@ -45,31 +45,31 @@ walk_any (suc n) (suc m) start (k ∷ (l ∷ rest)) hn hm =
     walk_any n m (start + (2 + l)) (drop l rest) (omega (arith, length-drop l rest)) (omega (arith, length-drop l rest)) in
     cc
 
-parts-nil : (m level start : ℕ) → parts_of m level start [] ≡ []
+parts_nil : (m level start : ℕ) → parts_of m level start [] ≡ []
 unfolding parts_of
-parts-nil zero level start = refl
-parts-nil (suc m) level start = refl
+parts_nil zero level start = refl
+parts_nil (suc m) level start = refl
 
-pub parts-any : (n m level start : ℕ) (bytes : List ℕ) → length bytes ≤ n → length bytes ≤ m → parts_of n level start bytes ≡ parts_of m level start bytes
+pub parts_any : (n m level start : ℕ) (bytes : List ℕ) → length bytes ≤ n → length bytes ≤ m → parts_of n level start bytes ≡ parts_of m level start bytes
 unfolding parts_of
-parts-any zero m level start [] hn hm = sym (parts-nil m level start)
-parts-any zero m level start (k ∷ r) hn hm = absurd (omega arith)
-parts-any (suc n) zero level start [] hn hm = refl
-parts-any (suc n) zero level start (k ∷ r) hn hm = absurd (omega arith)
-parts-any (suc n) (suc m) level start [] hn hm = refl
-parts-any (suc n) (suc m) level start (k ∷ []) hn hm = refl
-parts-any (suc n) (suc m) level start (k ∷ (l ∷ rest)) hn hm =
+parts_any zero m level start [] hn hm = sym (parts_nil m level start)
+parts_any zero m level start (k ∷ r) hn hm = absurd (omega arith)
+parts_any (suc n) zero level start [] hn hm = refl
+parts_any (suc n) zero level start (k ∷ r) hn hm = absurd (omega arith)
+parts_any (suc n) (suc m) level start [] hn hm = refl
+parts_any (suc n) (suc m) level start (k ∷ []) hn hm = refl
+parts_any (suc n) (suc m) level start (k ∷ (l ∷ rest)) hn hm =
     let inner : parts_of n (level + 1) (start + 2) (take l rest) ≡ parts_of m (level + 1) (start + 2) (take l rest) =
-    parts-any n m (level + 1) (start + 2) (take l rest) (omega (arith, length-take l rest)) (omega (arith, length-take l rest)) in
+    parts_any n m (level + 1) (start + 2) (take l rest) (omega (arith, length-take l rest)) (omega (arith, length-take l rest)) in
     let after : parts_of n level (start + (2 + l)) (drop l rest) ≡ parts_of m level (start + (2 + l)) (drop l rest) =
-    parts-any n m level (start + (2 + l)) (drop l rest) (omega (arith, length-drop l rest)) (omega (arith, length-drop l rest)) in
+    parts_any n m level (start + (2 + l)) (drop l rest) (omega (arith, length-drop l rest)) (omega (arith, length-drop l rest)) in
     cc
 
 -- ---- a MID, byte by byte from its front
 
-pub read-nil : (start : ℕ) → read_of 13 start [] ≡ Fine 13
+pub read_nil : (start : ℕ) → read_of 13 start [] ≡ Fine 13
 unfolding read_of walk_of
-read-nil start = refl
+read_nil start = refl
 
 pub read_one : (start k : ℕ) → read_of 13 start (k ∷ []) ≡ Refused (NotEnoughData 1 0)
 unfolding read_of walk_of
@@ -88,20 +88,20 @@ read_more start k l rest =
     walk_any n (length (drop l rest)) (start + (2 + l)) (drop l rest) (omega (arith, length-drop l rest)) (omega arith) in
     cc
 
-pub list-nil : (level start : ℕ) → list_of 13 level start [] ≡ []
+pub list_nil : (level start : ℕ) → list_of 13 level start [] ≡ []
 unfolding list_of parts_of
-list-nil level start = refl
+list_nil level start = refl
 
-pub list-more : (level start k l : ℕ) (rest : List ℕ) → list_of 13 level start (k ∷ (l ∷ rest)) ≡
-    record { upid_type = reportedOf k; level = level; start = start + 2; len = l }
+pub list_more : (level start k l : ℕ) (rest : List ℕ) → list_of 13 level start (k ∷ (l ∷ rest)) ≡
+    record { upid_type = reported_of k; level = level; start = start + 2; len = l }
     ∷ (list_of k (level + 1) (start + 2) (take l rest) ++ list_of 13 level (start + (2 + l)) (drop l rest))
 unfolding list_of parts_of
-list-more level start k l rest =
+list_more level start k l rest =
     let n : ℕ = length (l ∷ rest) in
     let inner : parts_of n (level + 1) (start + 2) (take l rest) ≡ parts_of (length (take l rest)) (level + 1) (start + 2) (take l rest) =
-    parts-any n (length (take l rest)) (level + 1) (start + 2) (take l rest) (omega (arith, length-take l rest)) (omega arith) in
+    parts_any n (length (take l rest)) (level + 1) (start + 2) (take l rest) (omega (arith, length-take l rest)) (omega arith) in
     let after : parts_of n level (start + (2 + l)) (drop l rest) ≡ parts_of (length (drop l rest)) level (start + (2 + l)) (drop l rest) =
-    parts-any n (length (drop l rest)) level (start + (2 + l)) (drop l rest) (omega (arith, length-drop l rest)) (omega arith) in
+    parts_any n (length (drop l rest)) level (start + (2 + l)) (drop l rest) (omega (arith, length-drop l rest)) (omega arith) in
     cc
 
 pub read_mid : (k start : ℕ) (bytes : List ℕ) → k ≡ 13 → read_of k start bytes ≡ read_of 13 start bytes
@@ -111,59 +111,59 @@ pub read_plain : (k start : ℕ) (bytes : List ℕ) → (k ≡ 13 → ⊥) → r
 unfolding read_of
 read_plain k start bytes h = rw (ne_eqb k 13 h)
 
-pub accepted-mid : (k start : ℕ) (bytes : List ℕ) → k ≡ 13 → Accepted (read_of k start bytes) → Accepted (read_of 13 start bytes)
-accepted-mid k start bytes h a = rw h at a
+pub accepted_mid : (k start : ℕ) (bytes : List ℕ) → k ≡ 13 → Accepted (read_of k start bytes) → Accepted (read_of 13 start bytes)
+accepted_mid k start bytes h a = rw h at a
 
-pub list-mid : (k level start : ℕ) (bytes : List ℕ) → k ≡ 13 → list_of k level start bytes ≡ list_of 13 level start bytes
-list-mid k level start bytes h = rw h
+pub list_mid : (k level start : ℕ) (bytes : List ℕ) → k ≡ 13 → list_of k level start bytes ≡ list_of 13 level start bytes
+list_mid k level start bytes h = rw h
 
-pub list-plain : (k level start : ℕ) (bytes : List ℕ) → (k ≡ 13 → ⊥) → list_of k level start bytes ≡ []
+pub list_plain : (k level start : ℕ) (bytes : List ℕ) → (k ≡ 13 → ⊥) → list_of k level start bytes ≡ []
 unfolding list_of
-list-plain k level start bytes h = rw (ne_eqb k 13 h)
+list_plain k level start bytes h = rw (ne_eqb k 13 h)
 
 -- ---- how many parts there can be
 
-few-or-none : (t : Bool) (n : ℕ) (ps : List Part) → 2 * length ps ≤ n → 2 * length (pick t ps []) ≤ n
-few-or-none true n ps h = h
-few-or-none false n ps h = omega arith
+few_or_none : (t : Bool) (n : ℕ) (ps : List Part) → 2 * length ps ≤ n → 2 * length (pick t ps []) ≤ n
+few_or_none true n ps h = h
+few_or_none false n ps h = omega arith
 
-few-parts : (n level start : ℕ) (bytes : List ℕ) → 2 * length (parts_of n level start bytes) ≤ length bytes
+few_parts : (n level start : ℕ) (bytes : List ℕ) → 2 * length (parts_of n level start bytes) ≤ length bytes
 unfolding parts_of
-few-parts zero level start bytes = omega arith
-few-parts (suc n) level start [] = omega arith
-few-parts (suc n) level start (k ∷ []) = omega arith
-few-parts (suc n) level start (k ∷ (l ∷ rest)) =
+few_parts zero level start bytes = omega arith
+few_parts (suc n) level start [] = omega arith
+few_parts (suc n) level start (k ∷ []) = omega arith
+few_parts (suc n) level start (k ∷ (l ∷ rest)) =
     omega (
       arith,
       length-append (pick (eqb k 13) (parts_of n (level + 1) (start + 2) (take l rest)) []) (parts_of n level (start + (2 + l)) (drop l rest)),
-      few-or-none (eqb k 13) (length (take l rest)) (parts_of n (level + 1) (start + 2) (take l rest)) (few-parts n (level + 1) (start + 2) (take l rest)),
-      few-parts n level (start + (2 + l)) (drop l rest),
+      few_or_none (eqb k 13) (length (take l rest)) (parts_of n (level + 1) (start + 2) (take l rest)) (few_parts n (level + 1) (start + 2) (take l rest)),
+      few_parts n level (start + (2 + l)) (drop l rest),
       length-take l rest,
       length-drop l rest,
     )
 
 pub few : (k level start : ℕ) (bytes : List ℕ) → 2 * length (list_of k level start bytes) ≤ length bytes
 unfolding list_of
-few k level start bytes = few-or-none (eqb k 13) _ _ (few-parts (length bytes) level start bytes)
+few k level start bytes = few_or_none (eqb k 13) _ _ (few_parts (length bytes) level start bytes)
 
 -- ---- what is accepted
 
-pub then-both : (a b : UpidRead) → Accepted (a then b) → Accepted a × Accepted b
+pub then_both : (a b : UpidRead) → Accepted (a then b) → Accepted a × Accepted b
 unfolding ◌then◌
-then-both (Fine k) b h = (tt, h)
-then-both (Refused r) b h = absurd h
+then_both (Fine k) b h = (tt, h)
+then_both (Refused r) b h = absurd h
 
-pub then-off : (a b : UpidRead) (r : Refusal) → a ≡ Refused r → a then b ≡ Refused r
+pub then_off : (a b : UpidRead) (r : Refusal) → a ≡ Refused r → a then b ≡ Refused r
 unfolding ◌then◌
-then-off a b r e = rw e
+then_off a b r e = rw e
 
-pub then-on : (a b : UpidRead) (k : ℕ) → a ≡ Fine k → a then b ≡ b
+pub then_on : (a b : UpidRead) (k : ℕ) → a ≡ Fine k → a then b ≡ b
 unfolding ◌then◌
-then-on a b k e = rw e
+then_on a b k e = rw e
 
 pub by_cases {ℓ} : {P : Type ℓ} (a b : ℕ) → (a < b → P) → (b ≤ a → P) → P
-by_cases {P = P} a b less not-less = go (ltb a b) refl
+by_cases {P = P} a b less not_less = go (ltb a b) refl
   where
     go : (t : Bool) → ltb a b ≡ t → P
     go true e = less (ltb-true a b e)
-    go false e = not-less (ltb-false a b e)
+    go false e = not_less (ltb-false a b e)

@@ -3,7 +3,7 @@ use Prim.Native.Nat.{ℕ}
 use mathlib.Core.Path.{◌≡◌, refl}
 use mathlib.Core.List.{List, [], ◌∷◌}
 use Rattle.upid.specs.Text.{text_of, done, step, within}
-use Rattle.upid.specs.Upid.{number_of, values_of, upidOf, checkOf, read_of, walk_of, ◌then◌, plain_of, length_of, isText, reportedOf, list_of, parts_of, listed, unlessRefused, parts_in}
+use Rattle.upid.specs.Upid.{number_of, values_of, upid_of, check_of, read_of, walk_of, ◌then◌, plain_of, length_of, is_text, reported_of, list_of, parts_of, listed, unless_refused, parts_in}
 use Rattle.upid.specs.declared.Part.{Part}
 use Rattle.upid.specs.declared.Upid.{Upid}
 use Rattle.upid.specs.declared.UpidRead.{UpidRead}
@@ -61,11 +61,11 @@ rows =
 
 pub data Hold : List Row → Type 0 where
   none : Hold []
-  more : {r : Row} {rs : List Row} → told (upidOf r.upid_type r.bytes) ≡ r.answer → Hold rs → Hold (r ∷ rs)
+  more : {r : Row} {rs : List Row} → told (upid_of r.upid_type r.bytes) ≡ r.answer → Hold rs → Hold (r ∷ rs)
 
-pub rows-hold : Hold rows
-unfolding rows tells number_of values_of upidOf checkOf read_of walk_of ◌then◌ plain_of length_of isText reportedOf list_of parts_of listed unlessRefused text_of done step within
-rows-hold =
+pub rows_hold : Hold rows
+unfolding rows tells number_of values_of upid_of check_of read_of walk_of ◌then◌ plain_of length_of is_text reported_of list_of parts_of listed unless_refused text_of done step within
+rows_hold =
     more refl (more refl (more refl (more refl (more refl (more refl
     (more refl (more refl (more refl (more refl (more refl (more refl
     (more refl (more refl (more refl (more refl (more refl (more refl

@@ -12,7 +12,7 @@ use native.Mathlib.Numerals.{add-one}
 use lib.ListN.{length, take, drop, get_or, set, replicate, length-replicate, length-append, length-take, length-drop, drop_of_length-le}
 use lib.Seq.{sets, sets-eq, drop-cons, drop-drop}
 use borrow.Author.Tests.{lt-ltb, le-ltb, ne_eqb}
-use Rattle.upid.specs.Upid.{◌then◌, read_of, list_of, listed, checkOf, eidrOf, unlessRefused, upidOf}
+use Rattle.upid.specs.Upid.{◌then◌, read_of, list_of, listed, check_of, eidr_of, unless_refused, upid_of}
 use Rattle.upid.specs.Private.{grown, Accepted}
 use Rattle.upid.specs.declared.Part.{Part}
 use Rattle.upid.specs.declared.PartList.{PartList}
@@ -20,7 +20,7 @@ use Rattle.upid.specs.declared.Refusal.{Refusal}
 use Rattle.upid.specs.declared.Refusal.TheVariants.{NotEnoughData}
 use Rattle.upid.specs.declared.UpidRead.{UpidRead}
 use Rattle.upid.specs.declared.UpidRead.TheVariants.{Fine, Refused}
-use Rattle.upid.proofs.Laws.{read-nil, read_one, read_more, list-nil, then-off, then-on, by_cases}
+use Rattle.upid.proofs.Laws.{read_nil, read_one, read_more, list_nil, then_off, then_on, by_cases}
 
 -- ---- a MID from a place `at` of its bytes on
 
@@ -35,11 +35,11 @@ at_more s at h l =
     let e : at + 2 ≡ suc (suc at) = omega arith in
     rw (drop-cons s at 0 h, drop-cons s (suc at) 0 h2, add-one, e)
 
-pub read-end : (start at : ℕ) (s : List ℕ) → length s ≤ at → read_of 13 start (drop at s) ≡ Fine 13
-read-end start at s h = rw (drop_of_length-le s h) (read-nil start)
+pub read_end : (start at : ℕ) (s : List ℕ) → length s ≤ at → read_of 13 start (drop at s) ≡ Fine 13
+read_end start at s h = rw (drop_of_length-le s h) (read_nil start)
 
-pub list-end : (level start at : ℕ) (s : List ℕ) → length s ≤ at → list_of 13 level start (drop at s) ≡ []
-list-end level start at s h = rw (drop_of_length-le s h) (list-nil level start)
+pub list_end : (level start at : ℕ) (s : List ℕ) → length s ≤ at → list_of 13 level start (drop at s) ≡ []
+list_end level start at s h = rw (drop_of_length-le s h) (list_nil level start)
 
 pub read_head : (start at : ℕ) (s : List ℕ) → at < length s → length s - at < 2 → read_of 13 start (drop at s) ≡ Refused (NotEnoughData 1 0)
 read_head start at s h l = rw (at_one s at h l) (read_one start (get_or s at 0))
@@ -64,53 +64,53 @@ module _ (start at n : ℕ) (s : List ℕ) (inside : at < length s) (head : 2 �
     overall : at + 2 + n - (at + 2) ≡ n
     overall = omega arith
 
-    pub inner-length : length (take (at + 2 + n - (at + 2)) (drop (at + 2) s)) ≡ n
-    inner-length = simp (length-take, length-drop) (omega arith)
+    pub inner_length : length (take (at + 2 + n - (at + 2)) (drop (at + 2) s)) ≡ n
+    inner_length = simp (length-take, length-drop) (omega arith)
 
-    pub read-turn : read_of 13 (start + at) (drop at s) ≡
+    pub read_turn : read_of 13 (start + at) (drop at s) ≡
         (read_of (get_or s at 0) (start + (at + 2)) (take (at + 2 + n - (at + 2)) (drop (at + 2) s))
         then read_of 13 (start + (at + 2 + n)) (drop (at + 2 + n) s))
-    read-turn = rw (at_more s at inside head, read_more, ← en, ends, le-ltb _ _ present, here, there, overall, drop-drop)
+    read_turn = rw (at_more s at inside head, read_more, ← en, ends, le-ltb _ _ present, here, there, overall, drop-drop)
 
-    pub read-stop : (inner : UpidRead) (r : Refusal) → inner ≡ read_of (get_or s at 0) (start + (at + 2)) (take (at + 2 + n - (at + 2)) (drop (at + 2) s))
+    pub read_stop : (inner : UpidRead) (r : Refusal) → inner ≡ read_of (get_or s at 0) (start + (at + 2)) (take (at + 2 + n - (at + 2)) (drop (at + 2) s))
         → inner ≡ Refused r → read_of 13 (start + at) (drop at s) ≡ Refused r
-    read-stop inner r e f = read-turn ∙ then-off _ _ r (sym e ∙ f)
+    read_stop inner r e f = read_turn ∙ then_off _ _ r (sym e ∙ f)
 
-    pub read-on : (inner : UpidRead) (k : ℕ) → inner ≡ read_of (get_or s at 0) (start + (at + 2)) (take (at + 2 + n - (at + 2)) (drop (at + 2) s))
+    pub read_on : (inner : UpidRead) (k : ℕ) → inner ≡ read_of (get_or s at 0) (start + (at + 2)) (take (at + 2 + n - (at + 2)) (drop (at + 2) s))
         → inner ≡ Fine k → read_of 13 (start + at) (drop at s) ≡ read_of 13 (start + (at + 2 + n)) (drop (at + 2 + n) s)
-    read-on inner k e f = read-turn ∙ then-on _ _ k (sym e ∙ f)
+    read_on inner k e f = read_turn ∙ then_on _ _ k (sym e ∙ f)
 
 -- ---- a list that grows
 
-sets-append {ℓ} : {A : Type ℓ} (l : List A) (i : ℕ) (xs ys : List A) → sets l i (xs ++ ys) ≡ sets (sets l i xs) (i + length xs) ys
-sets-append l i [] ys = rw add-zero
-sets-append l i (x ∷ xs) ys = rw (add-suc, ← (suc-add i (length xs))) (sets-append (set l i x) (suc i) xs ys)
+sets_append {ℓ} : {A : Type ℓ} (l : List A) (i : ℕ) (xs ys : List A) → sets l i (xs ++ ys) ≡ sets (sets l i xs) (i + length xs) ys
+sets_append l i [] ys = rw add-zero
+sets_append l i (x ∷ xs) ys = rw (add-suc, ← (suc-add i (length xs))) (sets_append (set l i x) (suc i) xs ys)
 
-pub grown-nil : (w : PartList) → grown w [] ≡ w
+pub grown_nil : (w : PartList) → grown w [] ≡ w
 unfolding grown
-grown-nil w = rw add-zero
+grown_nil w = rw add-zero
 
-pub grown-more : (w : PartList) (ps qs : List Part) → grown w (ps ++ qs) ≡ grown (grown w ps) qs
+pub grown_more : (w : PartList) (ps qs : List Part) → grown w (ps ++ qs) ≡ grown (grown w ps) qs
 unfolding grown
-grown-more w ps qs = rw (sets-append, length-append, ← add_assoc)
+grown_more w ps qs = rw (sets_append, length-append, ← add_assoc)
 
-drop-replicate {ℓ} : {A : Type ℓ} (i n : ℕ) (a : A) → drop i (replicate n a) ≡ replicate (n - i) a
-drop-replicate zero n a = rw sub-zero
-drop-replicate (suc i) zero a = rw zero-sub
-drop-replicate (suc i) (suc n) a = rw suc-sub-suc (drop-replicate i n a)
+drop_replicate {ℓ} : {A : Type ℓ} (i n : ℕ) (a : A) → drop i (replicate n a) ≡ replicate (n - i) a
+drop_replicate zero n a = rw sub-zero
+drop_replicate (suc i) zero a = rw zero-sub
+drop_replicate (suc i) (suc n) a = rw suc-sub-suc (drop_replicate i n a)
 
 -- elements stored from the front of an array of one value
-sets-front {ℓ} : {A : Type ℓ} (n : ℕ) (a : A) (xs : List A) → length xs ≤ n → sets (replicate n a) 0 xs ≡ xs ++ replicate (n - length xs) a
-sets-front n a xs h =
+sets_front {ℓ} : {A : Type ℓ} (n : ℕ) (a : A) (xs : List A) → length xs ≤ n → sets (replicate n a) 0 xs ≡ xs ++ replicate (n - length xs) a
+sets_front n a xs h =
     let e : 0 + length xs ≡ length xs = zero-add (length xs) in
     let f : 0 + length xs ≤ length (replicate n a) = omega (arith, length-replicate n a) in
-    sets-eq xs (replicate n a) 0 f ∙ rw (e, drop-replicate)
+    sets-eq xs (replicate n a) 0 f ∙ rw (e, drop_replicate)
 
-pub grown-blank : (ps : List Part) → length ps ≤ 127 → grown (listed []) ps ≡ listed ps
+pub grown_blank : (ps : List Part) → length ps ≤ 127 → grown (listed []) ps ≡ listed ps
 unfolding grown listed
-grown-blank ps h =
+grown_blank ps h =
     let e : 0 + length ps ≡ length ps = zero-add (length ps) in
-    rw (e, sets-front 127 _ ps h)
+    rw (e, sets_front 127 _ ps h)
 
 -- ---- bytes that were accepted
 
@@ -136,23 +136,23 @@ empty [] h = refl
 empty (b ∷ bs) h = absurd (omega arith)
 
 -- what is accepted has at most 255 bytes
-pub check-short : (k : ℕ) (bytes : List ℕ) → Accepted (checkOf k bytes) → length bytes ≤ 255
-unfolding checkOf
-check-short k bytes a = by_cases 255 (length bytes) (λ long. absurd (rw (lt-ltb _ _ long) at a)) (λ short. short)
+pub check_short : (k : ℕ) (bytes : List ℕ) → Accepted (check_of k bytes) → length bytes ≤ 255
+unfolding check_of
+check_short k bytes a = by_cases 255 (length bytes) (λ long. absurd (rw (lt-ltb _ _ long) at a)) (λ short. short)
 
 -- and what is accepted as a MID was read as one
-pub check-mid : (bytes : List ℕ) → Accepted (checkOf 13 bytes) → Accepted (read_of 13 0 bytes)
-unfolding checkOf
-check-mid bytes a =
+pub check_mid : (bytes : List ℕ) → Accepted (check_of 13 bytes) → Accepted (read_of 13 0 bytes)
+unfolding check_of
+check_mid bytes a =
     by_cases 0 (length bytes)
-    (λ some. let ne : length bytes ≡ 0 → ⊥ = omega arith in rw (le-ltb _ _ (check-short 13 bytes a), ne_eqb _ _ ne) at a)
-    (λ none. let e : bytes ≡ [] = empty bytes (omega arith) in rw (e, read-nil) tt)
+    (λ some. let ne : length bytes ≡ 0 → ⊥ = omega arith in rw (le-ltb _ _ (check_short 13 bytes a), ne_eqb _ _ ne) at a)
+    (λ none. let e : bytes ≡ [] = empty bytes (omega arith) in rw (e, read_nil) tt)
 
-module _ (k : ℕ) (bytes id : List ℕ) (read : UpidRead) (list : PartList) (eread : read ≡ checkOf k bytes) (eid : id ≡ eidrOf k bytes) where
-  pub answer-refused : (r : Refusal) → read ≡ Refused r → list ≡ listed [] → record { read = read; eidr = id; list = list } ≡ upidOf k bytes
-  unfolding upidOf unlessRefused
-  answer-refused r e el = rw (eid, el, ← eread, e)
+module _ (k : ℕ) (bytes id : List ℕ) (read : UpidRead) (list : PartList) (eread : read ≡ check_of k bytes) (eid : id ≡ eidr_of k bytes) where
+  pub answer_refused : (r : Refusal) → read ≡ Refused r → list ≡ listed [] → record { read = read; eidr = id; list = list } ≡ upid_of k bytes
+  unfolding upid_of unless_refused
+  answer_refused r e el = rw (eid, el, ← eread, e)
 
-  pub answer-fine : (q : ℕ) → read ≡ Fine q → list ≡ listed (list_of k 1 0 bytes) → record { read = read; eidr = id; list = list } ≡ upidOf k bytes
-  unfolding upidOf unlessRefused
-  answer-fine q e el = rw (eid, el, ← eread, e)
+  pub answer_fine : (q : ℕ) → read ≡ Fine q → list ≡ listed (list_of k 1 0 bytes) → record { read = read; eidr = id; list = list } ≡ upid_of k bytes
+  unfolding upid_of unless_refused
+  answer_fine q e el = rw (eid, el, ← eread, e)

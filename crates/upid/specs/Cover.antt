@@ -1,7 +1,7 @@
 -- What it means that the parts of a MID cover it, and that it can be cut in no other way.
 use Rattle.std.specs.Prelude.{ℕ, ◌+◌, ◌≤◌, ◌<◌, Bool, true, ◌&&◌, cond as pick, ◌≡◌, leb, ltb, eqb, length, take, drop}
 use mathlib.Core.List.{List, [], ◌∷◌, ◌++◌, map, Memᴰ}
-use Rattle.upid.specs.Upid.{reportedOf}
+use Rattle.upid.specs.Upid.{reported_of}
 use Rattle.upid.specs.declared.Part.{Part}
 
 -- every one of these
@@ -24,8 +24,8 @@ joined (c ∷ cs) = c.upid_type ∷ (length c.payload ∷ (c.payload ++ joined c
 -- ---- a MID and its direct parts
 
 -- the top MID as a record beside those of its parts
-abbrev pub topPart : List ℕ → Part
-topPart top = record { upid_type = 13; level = 0; start = 0; len = length top }
+abbrev pub top_part : List ℕ → Part
+top_part top = record { upid_type = 13; level = 0; start = 0; len = length top }
 
 -- the bytes of a part are one run of the top UPID
 abbrev pub bytes_of : List ℕ → Part → List ℕ
@@ -35,15 +35,15 @@ bytes_of top p = take p.len (drop p.start top)
 unfoldable pub directly : Part → Part → Bool
 directly m p = eqb p.level (m.level + 1) && leb (m.start + 2) p.start && leb (p.start + p.len) (m.start + m.len)
 
-unfoldable pub directOf : Part → List Part → List Part
-directOf m [] = []
-directOf m (p ∷ ps) = pick (directly m p) (p ∷ directOf m ps) (directOf m ps)
+unfoldable pub direct_of : Part → List Part → List Part
+direct_of m [] = []
+direct_of m (p ∷ ps) = pick (directly m p) (p ∷ direct_of m ps) (direct_of m ps)
 
 -- the records of pieces that follow one another from `start` on
 unfoldable pub placed : ℕ → ℕ → List Cut → List Part
 placed level start [] = []
 placed level start (c ∷ cs) =
-    record { upid_type = reportedOf c.upid_type; level = level; start = start + 2; len = length c.payload }
+    record { upid_type = reported_of c.upid_type; level = level; start = start + 2; len = length c.payload }
     ∷ placed level (start + (2 + length c.payload)) cs
 
 -- ---- the claims
@@ -54,8 +54,8 @@ pub record Covered (top : List ℕ) (ps : List Part) (m : Part) : Type 0 where
   pub cutting : List Cut
   pub joins : joined cutting ≡ bytes_of top m
   pub only : (other : List Cut) → joined other ≡ bytes_of top m → other ≡ cutting
-  pub pieces : directOf m ps ≡ placed (m.level + 1) m.start cutting
-  pub runs : map (bytes_of top) (directOf m ps) ≡ map (λ (c : Cut). c.payload) cutting
+  pub pieces : direct_of m ps ≡ placed (m.level + 1) m.start cutting
+  pub runs : map (bytes_of top) (direct_of m ps) ≡ map (λ (c : Cut). c.payload) cutting
 
 -- each part starts after the one before it: the list is in byte order, and each part stands before those inside it
 pub data Ascending : List Part → Type 0 where
@@ -82,4 +82,4 @@ times i (p ∷ ps) = pick (lies i p) 1 0 + times i ps
 
 -- each byte of the MID m lies in exactly one of its direct parts
 abbrev pub Once : List Part → Part → Type 0
-Once ps m = (i : ℕ) → m.start ≤ i → i < m.start + m.len → times i (directOf m ps) ≡ 1
+Once ps m = (i : ℕ) → m.start ≤ i → i < m.start + m.len → times i (direct_of m ps) ≡ 1

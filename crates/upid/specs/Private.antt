@@ -2,7 +2,7 @@
 use Rattle.std.specs.Prelude.{ℕ, zero, suc, ◌+◌, ◌-◌, ◌≤◌, List, [], ◌∷◌, ◌++◌, ◌≡◌, length, take, drop, get_or, replicate}
 use Rattle.std.proofs.lemmas.List.Edits.{sets}
 use Rattle.upid.specs.Text.{State, wants, broken, ◌to◌, tail}
-use Rattle.upid.specs.Upid.{read_of, list_of, reportedOf}
+use Rattle.upid.specs.Upid.{read_of, list_of, reported_of}
 use Rattle.upid.specs.declared.Part.{Part}
 use Rattle.upid.specs.declared.PartList.{PartList}
 use Rattle.upid.specs.declared.UpidRead.{UpidRead}
@@ -26,7 +26,7 @@ Accepted (Refused r) = ⊥
 
 -- The part p is the payload that its own head announces, two bytes before it in the top UPID, and lies in that UPID whole.
 pub record Announced (top : List ℕ) (p : Part) : Type 0 where
-  pub upid_type : p.upid_type ≡ reportedOf (get_or top (p.start - 2) 0)
+  pub upid_type : p.upid_type ≡ reported_of (get_or top (p.start - 2) 0)
   pub len : p.len ≡ get_or top (p.start - 1) 0
   pub behind : 2 ≤ p.start
   pub inside : p.start + p.len ≤ length top

@@ -44,14 +44,14 @@ begun b [] = 0
 begun b ([] ∷ rows) = begun b rows
 begun b ((r ∷ more) ∷ rows) = pick (within r b) 1 0 + begun b rows
 
--- ---- the same as a test, byte by byte (`text-is-utf8` and `utf8-is-text` in proofs/Theorems.antt)
+-- ---- the same as a test, byte by byte (`text_is_utf8` and `utf8_is_text` in proofs/Theorems.antt)
 
 -- where a reading stands: the ranges of the bytes of a character that are still to come, or past a byte that nothing allows
 pub data State : Type 0 where
   wants : List Range → State
   broken : State
 
--- the rest of the row that a first byte begins (no byte begins two: `no-byte-begins-two-rows`)
+-- the rest of the row that a first byte begins (no byte begins two: `no_byte_begins_two_rows`)
 abbrev pub begin : List (List Range) → ℕ → State
 begin [] b = broken
 begin ([] ∷ rows) b = begin rows b

@@ -1,6 +1,6 @@
 -- What a UPID says (document 01, "Identifiers").
 use Rattle.std.specs.Prelude.{ℕ, zero, suc, ◌+◌, Bool, not, ◌&&◌, ◌||◌, cond as pick, List, [], ◌∷◌, ◌++◌, ltb, eqb, length, take, drop, replicate}
-use Rattle.table.specs.Lent.{filledTo}
+use Rattle.table.specs.Lent.{filled_to}
 use Rattle.table.specs.declared.View.{View}
 use Rattle.upid.specs.Text.{text_of}
 use Rattle.upid.specs.declared.Part.{Part}
@@ -17,15 +17,15 @@ unfoldable pub number_of : Refusal → ℕ
 number_of InputTooLong = 2
 number_of (NotEnoughData expected actual) = 21
 number_of UpidLengthTypeMismatch = 23
-number_of (InvalidUpidContent upid-type bytes) = 24
-number_of (InvalidUpidLength upid-type expected actual) = 25
+number_of (InvalidUpidContent upid_type_number bytes) = 24
+number_of (InvalidUpidLength upid_type_number expected actual) = 25
 
 unfoldable pub values_of : Refusal → List ℕ
 values_of InputTooLong = []
 values_of (NotEnoughData expected actual) = expected ∷ actual ∷ []
 values_of UpidLengthTypeMismatch = []
-values_of (InvalidUpidContent upid-type bytes) = upid-type ∷ bytes.at ∷ bytes.len ∷ []
-values_of (InvalidUpidLength upid-type expected actual) = upid-type ∷ expected ∷ actual ∷ []
+values_of (InvalidUpidContent upid_type_number bytes) = upid_type_number ∷ bytes.at ∷ bytes.len ∷ []
+values_of (InvalidUpidLength upid_type_number expected actual) = upid_type_number ∷ expected ∷ actual ∷ []
 
 -- ---- the types
 
@@ -37,22 +37,22 @@ length_of k =
     (pick (eqb k 4) 32 0))
 
 -- "Types 2, 3, 7 are UTF-8"
-unfoldable pub isText : ℕ → Bool
-isText k = eqb k 2 || eqb k 3 || eqb k 7
+unfoldable pub is_text : ℕ → Bool
+is_text k = eqb k 2 || eqb k 3 || eqb k 7
 
 -- "Types 5 and 6 are one kind .. both report type 6"
-unfoldable pub reportedOf : ℕ → ℕ
-reportedOf k = pick (eqb k 5) 6 k
+unfoldable pub reported_of : ℕ → ℕ
+reported_of k = pick (eqb k 5) 6 k
 
 -- A payload of type k, other than a MID, that starts at `start` of the top UPID: type 0 has none, a type without a fixed length takes any
 -- bytes, and length is tested before text.
 unfoldable pub plain_of : ℕ → ℕ → List ℕ → UpidRead
 plain_of k start bytes =
     pick (eqb k 0) (Refused UpidLengthTypeMismatch)
-    (pick (eqb (length_of k) 0) (Fine (reportedOf k))
+    (pick (eqb (length_of k) 0) (Fine (reported_of k))
     (pick (not (eqb (length bytes) (length_of k))) (Refused (InvalidUpidLength k (length_of k) (length bytes)))
-    (pick (isText k && not (text_of bytes)) (Refused (InvalidUpidContent k (record { at = start; len = length bytes })))
-    (Fine (reportedOf k)))))
+    (pick (is_text k && not (text_of bytes)) (Refused (InvalidUpidContent k (record { at = start; len = length bytes })))
+    (Fine (reported_of k)))))
 
 -- ---- a MID "repeats type, length, payload"
 
@@ -83,7 +83,7 @@ parts_of zero level start bytes = []
 parts_of (suc n) level start [] = []
 parts_of (suc n) level start (k ∷ []) = []
 parts_of (suc n) level start (k ∷ (l ∷ rest)) =
-    record { upid_type = reportedOf k; level = level; start = start + 2; len = l }
+    record { upid_type = reported_of k; level = level; start = start + 2; len = l }
     ∷ (pick (eqb k 13) (parts_of n (level + 1) (start + 2) (take l rest)) []
     ++ parts_of n level (start + (2 + l)) (drop l rest))
 
@@ -94,41 +94,41 @@ list_of k level start bytes = pick (eqb k 13) (parts_of (length bytes) level sta
 -- ---- the answers
 
 -- "Length 0 at top level is None and reports type 0, whichever type was written"
-unfoldable pub checkOf : ℕ → List ℕ → UpidRead
-checkOf k bytes =
+unfoldable pub check_of : ℕ → List ℕ → UpidRead
+check_of k bytes =
     pick (ltb 255 (length bytes)) (Refused InputTooLong)
     (pick (eqb (length bytes) 0) (Fine 0)
     (read_of k 0 bytes))
 
 -- "The EIDR identifier of 12 bytes is held by value"; all zero where there is none
-unfoldable pub eidrOf : ℕ → List ℕ → List ℕ
-eidrOf k bytes = pick (eqb k 10 && eqb (length bytes) 12) bytes (replicate 12 0)
+unfoldable pub eidr_of : ℕ → List ℕ → List ℕ
+eidr_of k bytes = pick (eqb k 10 && eqb (length bytes) 12) bytes (replicate 12 0)
 
-abbrev pub blankPart : Part
-blankPart = record { upid_type = 0; level = 0; start = 0; len = 0 }
+abbrev pub blank_part : Part
+blank_part = record { upid_type = 0; level = 0; start = 0; len = 0 }
 
 -- "a list of 127 part records with a count .. places past the count are all zero"
 unfoldable pub listed : List Part → PartList
-listed ps = record { parts = filledTo 127 blankPart ps; count = length ps }
+listed ps = record { parts = filled_to 127 blank_part ps; count = length ps }
 
 -- the parts of what is accepted, and none of what is refused
-unfoldable pub unlessRefused : UpidRead → List Part → List Part
-unlessRefused (Fine k) ps = ps
-unlessRefused (Refused r) ps = []
+unfoldable pub unless_refused : UpidRead → List Part → List Part
+unless_refused (Fine k) ps = ps
+unless_refused (Refused r) ps = []
 
-unfoldable pub upidOf : ℕ → List ℕ → Upid
-upidOf k bytes =
+unfoldable pub upid_of : ℕ → List ℕ → Upid
+upid_of k bytes =
     record {
-      read = checkOf k bytes;
-      eidr = eidrOf k bytes;
-      list = listed (unlessRefused (checkOf k bytes) (list_of k 1 0 bytes));
+      read = check_of k bytes;
+      eidr = eidr_of k bytes;
+      list = listed (unless_refused (check_of k bytes) (list_of k 1 0 bytes));
     }
 
 -- ---- what an answer says
 
 -- where a part's payload lies in the top UPID
-abbrev pub partView : Part → View
-partView p = record { at = p.start; len = p.len }
+abbrev pub part_view : Part → View
+part_view p = record { at = p.start; len = p.len }
 
 -- the parts in an answer: those before its count
 abbrev pub parts_in : Upid → List Part

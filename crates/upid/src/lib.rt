@@ -1,7 +1,7 @@
 // UPIDs: what a segmentation descriptor says its segment is (document 01, "Identifiers").
 ghost use Rattle.std.specs.Prelude.{◌≡◌};
 ghost use Rattle.table.specs.Lent.{viewed};
-ghost use Rattle.upid.specs.Upid.{checkOf, upidOf, eidrOf, partView};
+ghost use Rattle.upid.specs.Upid.{check_of, upid_of, eidr_of, part_view};
 
 use crate::mid::{blank, check_payload, list_parts};
 use table::View;
@@ -74,7 +74,7 @@ pub struct Upid {
 
 // What the bytes are read as under the type `upid_type`, without the list of parts.
 pub fn check_upid(upid_type: u8, upid: &[u8]) -> UpidRead
-    ensures { result ≡ checkOf upid_type upid.now }
+    ensures { result ≡ check_of upid_type upid.now }
 {
     if MAX_UPID < upid.len() {
         return UpidRead::Refused(Refusal::InputTooLong);
@@ -87,7 +87,7 @@ pub fn check_upid(upid_type: u8, upid: &[u8]) -> UpidRead
 
 // What the bytes are read as under the type `upid_type`, with the list of parts.
 pub fn read_upid(upid_type: u8, upid: &[u8]) -> Upid
-    ensures { result ≡ upidOf upid_type upid.now }
+    ensures { result ≡ upid_of upid_type upid.now }
 {
     let held = eidr(upid_type, upid);
     let read = check_upid(upid_type, upid);
@@ -107,7 +107,7 @@ pub fn read_upid(upid_type: u8, upid: &[u8]) -> Upid
 
 // The EIDR identifier by value; all zero where the UPID is no EIDR.
 pub fn eidr(upid_type: u8, upid: &[u8]) -> [u8; 12]
-    ensures { result ≡ eidrOf upid_type upid.now }
+    ensures { result ≡ eidr_of upid_type upid.now }
 {
     let mut out = [0u8; 12];
     if upid_type != UPID_EIDR {
@@ -126,7 +126,7 @@ pub fn eidr(upid_type: u8, upid: &[u8]) -> [u8; 12]
 
 // The bytes of a part, as a part of the lent top UPID.
 pub fn part_bytes(upid: &[u8], part: Part) -> &[u8]
-    ensures { result.now ≡ viewed upid.now (partView part) }
+    ensures { result.now ≡ viewed upid.now (part_view part) }
 {
     let place = View {
         at: part.start as usize,

@@ -1,6 +1,6 @@
 // What a UPID's type says of its bytes.
 ghost use Rattle.std.specs.Prelude.{◌≡◌};
-ghost use Rattle.upid.specs.Upid.{length_of, isText, reportedOf, plain_of};
+ghost use Rattle.upid.specs.Upid.{length_of, is_text, reported_of, plain_of};
 
 use crate::text::is_text;
 use crate::{Refusal, UpidRead};
@@ -19,7 +19,7 @@ fn fixed(upid_type: u8) -> usize
 }
 
 fn has_text(upid_type: u8) -> bool
-    ensures { result ≡ isText upid_type }
+    ensures { result ≡ is_text upid_type }
 {
     match upid_type {
         2 | 3 | 7 => true,
@@ -28,7 +28,7 @@ fn has_text(upid_type: u8) -> bool
 }
 
 pub(crate) fn reported(upid_type: u8) -> u8
-    ensures { result ≡ reportedOf upid_type }
+    ensures { result ≡ reported_of upid_type }
 {
     if upid_type == 5 { 6 } else { upid_type }
 }

@@ -1,7 +1,7 @@
 -- `adjust::adjust`, by the kind of the time.
 use mathlib.Core.Path.{sym}
 use native.Mathlib.Omega.{arith}
-use Rattle.adjust.proofs.Laws.{adjust-is, adjust-wide, adjust-late}
+use Rattle.adjust.proofs.Laws.{adjust_is, adjust_wide, adjust_late}
 use borrow.Author.Rules.{rules}
 use Rattle.adjust.proofs.adjust.Statement.{statement}
 use Rattle.adjust.proofs.adjust.Tie as tie
@@ -10,7 +10,7 @@ use Rattle.adjust.proofs.adjust.Tie as tie
 returns : tie.Need-returns
 returns c =
     let a = c.before.args in
-    sym (adjust-wide a.time a.adjustment (omega arith))
+    sym (adjust_wide a.time a.adjustment (omega arith))
 
 -- src/lib.rt:26:44
 enum_told : tie.Need-enum-told
@@ -25,45 +25,45 @@ enum-known-time : tie.Need-enum-known-time
 enum-known-time c = search rules
 
 -- src/lib.rt:30:17
-returns-2 : tie.Need-returns-2
-returns-2 c =
+returns_2 : tie.Need-returns-2
+returns_2 c =
     let t = c.before.before in
     let a = t.before.before.before.args in
-    sym (adjust-late a.time a.adjustment (omega arith) (rw t.time.given.1 (omega arith)))
+    sym (adjust_late a.time a.adjustment (omega arith) (rw t.time.given.1 (omega arith)))
 
 -- src/lib.rt:32:39
 add-t9 : tie.Need-overflow-add-t9
 add-t9 c = search rules
 
 -- src/lib.rt:19:1
-returns-3 : tie.Need-returns-3
-returns-3 c =
+returns_3 : tie.Need-returns-3
+returns_3 c =
     let a = c.before.before.before.args in
-    sym (rw c.enum_told.given.1 (adjust-is _ a.adjustment (omega arith) (omega arith)))
+    sym (rw c.enum_told.given.1 (adjust_is _ a.adjustment (omega arith) (omega arith)))
 
 -- src/lib.rt:19:1
-returns-4 : tie.Need-returns-4
-returns-4 c =
+returns_4 : tie.Need-returns-4
+returns_4 c =
     let a = c.before.before.before.args in
-    sym (rw c.enum-told2.given.1 (adjust-is _ a.adjustment (omega arith) (omega arith)))
+    sym (rw c.enum-told2.given.1 (adjust_is _ a.adjustment (omega arith) (omega arith)))
 
 -- src/lib.rt:19:1
-returns-5 : tie.Need-returns-5
-returns-5 c =
+returns_5 : tie.Need-returns-5
+returns_5 c =
     let t = c.before.before in
     let a = t.before.before.before.args in
-    sym (rw t.time.given.1 (adjust-is _ a.adjustment (omega arith) (omega arith)))
+    sym (rw t.time.given.1 (adjust_is _ a.adjustment (omega arith) (omega arith)))
 
-pub adjust-spec : {M : Type 1} → statement M
-adjust-spec =
+pub adjust_spec : {M : Type 1} → statement M
+adjust_spec =
     tie.close
     (tie.spec
     returns
     enum_told
     enum-told-2
     enum-known-time
-    returns-2
+    returns_2
     add-t9
-    returns-3
-    returns-4
-    returns-5)
+    returns_3
+    returns_4
+    returns_5)

@@ -1,7 +1,7 @@
 -- `adjust::chain`.
 use mathlib.Core.Path.{sym}
 use native.Mathlib.Omega.{arith}
-use Rattle.adjust.proofs.Laws.{chain-is, chain_first, chain_second}
+use Rattle.adjust.proofs.Laws.{chain_is, chain_first, chain_second}
 use borrow.Author.Rules.{rules}
 use Rattle.adjust.proofs.chain.Statement.{statement}
 use Rattle.adjust.proofs.chain.Tie as tie
@@ -13,8 +13,8 @@ returns c =
     sym (chain_first a.a a.b (omega arith))
 
 -- src/lib.rt:45:9
-returns-2 : tie.Need-returns-2
-returns-2 c =
+returns_2 : tie.Need-returns-2
+returns_2 c =
     let a = c.before.before.args in
     sym (chain_second a.a a.b (omega arith) (omega arith))
 
@@ -23,10 +23,10 @@ add-t4 : tie.Need-overflow-add-t4
 add-t4 c = search rules
 
 -- src/lib.rt:38:1
-returns-3 : tie.Need-returns-3
-returns-3 c =
+returns_3 : tie.Need-returns-3
+returns_3 c =
     let a = c.before.before.args in
-    sym (chain-is a.a a.b (omega arith) (omega arith))
+    sym (chain_is a.a a.b (omega arith) (omega arith))
 
-pub chain-spec : {M : Type 1} → statement M
-chain-spec = tie.close (tie.spec returns returns-2 add-t4 returns-3)
+pub chain_spec : {M : Type 1} → statement M
+chain_spec = tie.close (tie.spec returns returns_2 add-t4 returns_3)

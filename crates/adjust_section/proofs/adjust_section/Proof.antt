@@ -2,13 +2,13 @@
 use Prim.Native.Nat.{ℕ, ◌+◌, ◌%◌}
 use mathlib.Core.Path.{◌≡◌, sym, ◌∙◌, ap}
 use native.Mathlib.Omega.{arith}
-use Rattle.bit_stores.proofs.Writes.{refused-answer, short-answer}
-use Rattle.section.proofs.Acceptance.{number-some}
-use Rattle.section.specs.Section.{sectionOf, number_of}
+use Rattle.bit_stores.proofs.Writes.{refused_answer, short_answer}
+use Rattle.section.proofs.Acceptance.{number_some}
+use Rattle.section.specs.Section.{section_of, number_of}
 use Rattle.table.proofs.Reading.{field_lt}
-use Rattle.adjust_section.specs.Adjusted.{adjustmentIn, adjustedSection}
-use Rattle.adjust_section.proofs.Parts.{length-section}
-use Rattle.adjust_section.proofs.Stored.{is-refused, is_wide, is_made, sizes, wrote-section}
+use Rattle.adjust_section.specs.Adjusted.{adjustment_in, adjusted_section}
+use Rattle.adjust_section.proofs.Parts.{length_section}
+use Rattle.adjust_section.proofs.Stored.{is_refused, is_wide, is_made, sizes, wrote_section}
 use borrow.Author.Rules.{rules}
 use Rattle.adjust_section.proofs.adjust_section.Statement.{statement}
 use Rattle.adjust_section.proofs.adjust_section.Tie as tie
@@ -17,7 +17,7 @@ use Rattle.adjust_section.proofs.adjust_section.Tie as tie
 abbrev start : tie.After-enum-told → tie.Start
 start w = w.before.before.before.before.before
 
-none : (w : tie.After-enum-told) → number_of (sectionOf (start w).args.section.now) ≡ 0
+none : (w : tie.After-enum-told) → number_of (section_of (start w).args.section.now) ≡ 0
 unfolding number_of
 none w = ap number_of (sym w.before.before.read-section.ensures ∙ w.enum_told.given.1)
 
@@ -38,23 +38,23 @@ returns c =
     let r = c.before.before in
     let rs = r.before.before in
     let a = rs.before.before.before.args in
-    let some : c.number.result ≡ 0 → ⊥ = λ z. number-some _ (sym c.number.ensures ∙ z) in
-    refused-answer (adjustedSection a.section.now a.adjustment) a.target.now _
-    (is-refused a.section.now a.adjustment _ (c.number.ensures ∙ ap number_of (sym r.r.given.1 ∙ rs.read-section.ensures)) (omega (arith, some)))
+    let some : c.number.result ≡ 0 → ⊥ = λ z. number_some _ (sym c.number.ensures ∙ z) in
+    refused_answer (adjusted_section a.section.now a.adjustment) a.target.now _
+    (is_refused a.section.now a.adjustment _ (c.number.ensures ∙ ap number_of (sym r.r.given.1 ∙ rs.read-section.ensures)) (omega (arith, some)))
 
-returns-2 : tie.Need-returns-2
-returns-2 c =
+returns_2 : tie.Need-returns-2
+returns_2 c =
     let w = c.before in
     let a = (start w).args in
-    refused-answer (adjustedSection a.section.now a.adjustment) a.target.now 32 (is_wide a.section.now a.adjustment (none w) (omega arith))
+    refused_answer (adjusted_section a.section.now a.adjustment) a.target.now 32 (is_wide a.section.now a.adjustment (none w) (omega arith))
 
-returns-3 : tie.Need-returns-3
-returns-3 c =
+returns_3 : tie.Need-returns-3
+returns_3 c =
     let w = c.before.before in
     let a = (start w).args in
-    let e : number_of (sectionOf a.section.now) ≡ 0 = none w in
-    short-answer (adjustedSection a.section.now a.adjustment) a.target.now _ (is_made a.section.now a.adjustment e (omega arith))
-    (omega (arith, length-section ((adjustmentIn a.section.now + a.adjustment) % 8589934592) a.section.now (sizes a.section.now e).0))
+    let e : number_of (section_of a.section.now) ≡ 0 = none w in
+    short_answer (adjusted_section a.section.now a.adjustment) a.target.now _ (is_made a.section.now a.adjustment e (omega arith))
+    (omega (arith, length_section ((adjustment_in a.section.now + a.adjustment) % 8589934592) a.section.now (sizes a.section.now e).0))
 
 time33-requires : tie.Need-time33-requires
 time33-requires c κs = search rules
@@ -68,23 +68,23 @@ put-section-requires : tie.Need-put-section-requires
 put-section-requires c κs =
     let w = c.before.before.before.before in
     let a = (start w).args in
-    let e : number_of (sectionOf a.section.now) ≡ 0 = none w in
+    let e : number_of (section_of a.section.now) ≡ 0 = none w in
     let z = sizes a.section.now e in
     (omega arith, z.0, z.1, omega arith)
 
 same_length : tie.Need-same-length
 same_length c = search rules
 
-returns-4 : tie.Need-returns-4
-returns-4 c =
+returns_4 : tie.Need-returns-4
+returns_4 c =
     let p = c.before.before in
     let v = p.before in
     let w = v.before.before.before.before in
     let a = (start w).args in
-    wrote-section a.section.now a.target.now _ a.adjustment _ (none w) (omega arith) (omega arith) v.time33.ensures p.put-section.ensures
+    wrote_section a.section.now a.target.now _ a.adjustment _ (none w) (omega arith) (omega arith) v.time33.ensures p.put-section.ensures
 
-pub adjust-section-spec : {M : Type 1} → statement M
-adjust-section-spec =
+pub adjust_section_spec : {M : Type 1} → statement M
+adjust_section_spec =
     tie.close
     (tie.spec
     read-section-requires
@@ -92,10 +92,10 @@ adjust-section-spec =
     enum-known-r
     number-requires
     returns
-    returns-2
-    returns-3
+    returns_2
+    returns_3
     time33-requires
     add-put-section
     put-section-requires
     same_length
-    returns-4)
+    returns_4)

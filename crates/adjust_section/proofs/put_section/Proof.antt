@@ -1,7 +1,7 @@
 -- `adjust_section::put_section`: four stores as one.
 use Prim.Native.Nat.{ℕ}
 use native.Mathlib.Omega.{arith}
-use Rattle.adjust_section.proofs.Stored.{section-stored}
+use Rattle.adjust_section.proofs.Stored.{section_stored}
 use borrow.Author.Rules.{rules}
 use Rattle.adjust_section.proofs.put_section.Statement.{statement}
 use Rattle.adjust_section.proofs.put_section.Tie as tie
@@ -79,11 +79,11 @@ returns c =
     let b₁ = x.before.before.before.before.before in
     let st = b₁.before.before.before.before.before in
     let a = st.args in
-    section-stored a.target.now _ _ _ _ a.section.now _ a.p _ x.wide.ensures.0 b₁.put-bytes.ensures n₁.put-number.ensures b₂.put-bytes2.ensures
+    section_stored a.target.now _ _ _ _ a.section.now _ a.p _ x.wide.ensures.0 b₁.put_bytes.ensures n₁.put_number.ensures b₂.put-bytes2.ensures
     k.crc32.ensures n₂.put-number2.ensures st.requires.1 st.requires.3
 
-pub put-section-spec : {M : Type 1} → statement M
-put-section-spec =
+pub put_section_spec : {M : Type 1} → statement M
+put_section_spec =
     tie.close
     (tie.spec
     sub-end

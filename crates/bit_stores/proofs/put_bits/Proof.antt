@@ -1,5 +1,5 @@
 -- `bit_stores::put_bits`: whole bytes at once where a byte begins.
-use Rattle.bit_stores.proofs.Turns.{pens-aligned}
+use Rattle.bit_stores.proofs.Turns.{pens_aligned}
 use borrow.Author.Rules.{rules}
 use Rattle.bit_stores.proofs.put_bits.Statement.{statement}
 use Rattle.bit_stores.proofs.put_bits.Tie as tie
@@ -15,7 +15,7 @@ returns c =
     let p = c.before.before in
     let t = p.before.before in
     let a = t.before.before.before.before.args in
-    pens-aligned a.out.now a.c a.w a.v _ _ t.before.if1.true t.if2.true p.put-aligned.ensures
+    pens_aligned a.out.now a.c a.w a.v _ _ t.before.if1.true t.if2.true p.put-aligned.ensures
 
 put-across-requires : tie.Need-put-across-requires
 put-across-requires c κs = search rules
@@ -23,10 +23,10 @@ put-across-requires c κs = search rules
 same-length-2 : tie.Need-same-length-2
 same-length-2 c = search rules
 
-returns-2 : tie.Need-returns-2
-returns-2 c = search rules
+returns_2 : tie.Need-returns-2
+returns_2 c = search rules
 
-pub put-bits-spec : {M : Type 1} → statement M
-put-bits-spec =
+pub put_bits_spec : {M : Type 1} → statement M
+put_bits_spec =
     tie.close
-    (tie.spec put-aligned-requires same_length returns put-across-requires same-length-2 returns-2)
+    (tie.spec put-aligned-requires same_length returns put-across-requires same-length-2 returns_2)

@@ -5,7 +5,7 @@ use native.Mathlib.Omega.{arith}
 use lib.Pow.{pow_pos}
 use Rattle.bit_stores.specs.Private.{with_bits}
 use Rattle.table.proofs.Reading.{mask}
-use Rattle.bit_stores.proofs.Turns.{mixed, mixed-byte}
+use Rattle.bit_stores.proofs.Turns.{mixed, mixed_byte}
 use borrow.Author.Rules.{rules}
 use Rattle.bit_stores.proofs.with_bits.Statement.{statement}
 use Rattle.bit_stores.proofs.with_bits.Tie as tie
@@ -18,7 +18,7 @@ sum : (c : tie.After-wide) →
 sum c = let a = c.before.args in mixed c.wide.result a.j a.n a.x c.wide.ensures.1 c.before.requires.0 c.before.requires.1
 
 below : (c : tie.After-wide) → let a = c.before.args in with_bits c.wide.result a.j a.n a.x < 256
-below c = let a = c.before.args in mixed-byte c.wide.result a.j a.n a.x c.wide.ensures.1 c.before.requires.0 c.before.requires.1
+below c = let a = c.before.args in mixed_byte c.wide.result a.j a.n a.x c.wide.ensures.1 c.before.requires.0 c.before.requires.1
 
 wide-requires : tie.Need-wide-requires
 wide-requires c κs = search rules
@@ -62,8 +62,8 @@ cast-result c = record { fits = omega (arith, sum c, below c) }
 returns : tie.Need-returns
 returns c = let a = c.before.args in sum c ∙ ap (λ (b : ℕ). with_bits b a.j a.n a.x) c.wide.ensures.0
 
-pub with-bits-spec : {M : Type 1} → statement M
-with-bits-spec =
+pub with_bits_spec : {M : Type 1} → statement M
+with_bits_spec =
     tie.close
     (tie.spec
     wide-requires

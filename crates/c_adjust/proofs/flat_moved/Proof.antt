@@ -1,6 +1,6 @@
 -- `c_adjust::flat_moved` meets its contract, by the kind of the time.
 use borrow.Author.Rules.{rules}
-use Rattle.c_adjust.specs.FlatAdjust.{flatMoved}
+use Rattle.c_adjust.specs.FlatAdjust.{flat_moved}
 use Rattle.c_adjust.proofs.flat_moved.Statement.{statement}
 use Rattle.c_adjust.proofs.flat_moved.Tie as tie
 
@@ -20,23 +20,23 @@ enum-told-3 : tie.Need-enum-told-3
 enum-told-3 c = search rules
 
 returns : tie.Need-returns
-unfolding flatMoved
+unfolding flat_moved
 returns c = rw (c.before.before.before.m.given.1, c.enum_told.given.1)
 
-returns-2 : tie.Need-returns-2
-unfolding flatMoved
-returns-2 c = rw (c.before.before.before.m.given.1, c.enum-told2.given.1)
+returns_2 : tie.Need-returns-2
+unfolding flat_moved
+returns_2 c = rw (c.before.before.before.m.given.1, c.enum-told2.given.1)
 
-returns-3 : tie.Need-returns-3
-unfolding flatMoved
-returns-3 c = rw (c.before.before.before.before.m.given.1, c.before.time.given.1)
+returns_3 : tie.Need-returns-3
+unfolding flat_moved
+returns_3 c = rw (c.before.before.before.before.m.given.1, c.before.time.given.1)
 
-returns-4 : tie.Need-returns-4
-unfolding flatMoved
-returns-4 c = rw c.enum-told3.given.1
+returns_4 : tie.Need-returns-4
+unfolding flat_moved
+returns_4 c = rw c.enum-told3.given.1
 
-pub flat-moved-spec : {M : Type 1} → statement M
-flat-moved-spec =
+pub flat_moved_spec : {M : Type 1} → statement M
+flat_moved_spec =
     tie.close
     (tie.spec
     enum-known-m
@@ -45,6 +45,6 @@ flat-moved-spec =
     enum-known-time
     enum-told-3
     returns
-    returns-2
-    returns-3
-    returns-4)
+    returns_2
+    returns_3
+    returns_4)

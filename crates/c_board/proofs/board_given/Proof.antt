@@ -3,8 +3,8 @@ use Rattle.c_board.proofs.board_given.Statement.{statement}
 use Rattle.c_board.proofs.board_given.Tie as tie
 use Rattle.c_board.proofs.board_given.Reads as reads
 use Rattle.c_board.proofs.board_given.Lts as lts
-use Rattle.c_board.proofs.places_given.Reads as places-given-reads
-use Rattle.c_board.proofs.whose_given.Reads as whose-given-reads
+use Rattle.c_board.proofs.places_given.Reads as places_given_reads
+use Rattle.c_board.proofs.whose_given.Reads as whose_given_reads
 
 -- src/lib.rt:69:9
 places-given-requires : tie.Need-places-given-requires
@@ -42,8 +42,8 @@ array-write-next-2 c = search rules
 returns : tie.Need-returns
 returns c = rw (c.before.before.whose-given.ensures, c.before.before.before.places-given.ensures)
 
-pub board-given-spec : {M : Type 1} → statement M
-board-given-spec =
+pub board_given_spec : {M : Type 1} → statement M
+board_given_spec =
     tie.close
     (tie.spec
     places-given-requires

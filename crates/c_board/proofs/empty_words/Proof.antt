@@ -9,9 +9,9 @@ use Rattle.c_board.proofs.empty_words.Statement.{statement}
 use Rattle.c_board.proofs.empty_words.Tie as tie
 use Rattle.c_board.proofs.empty_words.Reads as reads
 use Rattle.c_board.proofs.empty_words.Lts as lts
-use Rattle.channels.proofs.empty.Reads as empty-reads
-use Rattle.c_board.proofs.put_board.Reads as put-board-reads
-use Rattle.c_board.proofs.too_short.Reads as too-short-reads
+use Rattle.channels.proofs.empty.Reads as empty_reads
+use Rattle.c_board.proofs.put_board.Reads as put_board_reads
+use Rattle.c_board.proofs.too_short.Reads as too_short_reads
 
 -- src/lib.rt:144:9
 too-short-requires : tie.Need-too-short-requires
@@ -35,14 +35,14 @@ same_length : tie.Need-same-length
 same_length c = search rules
 
 -- src/lib.rt:139:1
-returns-2 : tie.Need-returns-2
+returns_2 : tie.Need-returns-2
 unfolding emptied
-returns-2 c =
+returns_2 c =
     let p = c.before.before in
     let e = le-ltb _ 66 p.before.before.before.if1.false in
     (rw e, rw e (p.put-board.ensures ∙ ap (λ (b : SharedBoard). stored b p.before.before.before.before.before.args.words.now) p.before.empty.ensures))
 
-pub empty-words-spec : {M : Type 1} → statement M
-empty-words-spec =
+pub empty_words_spec : {M : Type 1} → statement M
+empty_words_spec =
     tie.close
-    (tie.spec too-short-requires returns empty-requires put-board-requires same_length returns-2)
+    (tie.spec too-short-requires returns empty-requires put-board-requires same_length returns_2)

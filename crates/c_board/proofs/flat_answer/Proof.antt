@@ -1,12 +1,12 @@
 use mathlib.Core.Path.{◌∙◌}
-use Rattle.c_board.specs.Lent.{id_of, flatReply}
-use Rattle.channels.specs.Channels.{refusalOf}
+use Rattle.c_board.specs.Lent.{id_of, flat_reply}
+use Rattle.channels.specs.Channels.{refusal_of}
 use borrow.Author.Rules.{rules}
 use Rattle.c_board.proofs.flat_answer.Statement.{statement}
 use Rattle.c_board.proofs.flat_answer.Tie as tie
 use Rattle.c_board.proofs.flat_answer.Reads as reads
 use Rattle.c_board.proofs.flat_answer.Lts as lts
-use Rattle.c_board.proofs.number_of.Reads as number-of-reads
+use Rattle.c_board.proofs.number_of.Reads as number_of_reads
 
 -- src/lib.rt:109:20
 enum-known-a : tie.Need-enum-known-a
@@ -26,14 +26,14 @@ number-of-requires c κs = search rules
 
 -- src/lib.rt:105:1
 returns : tie.Need-returns
-unfolding flatReply id_of refusalOf
+unfolding flat_reply id_of refusal_of
 returns c = rw c.before.a.given.1
 
 -- src/lib.rt:105:1
-returns-2 : tie.Need-returns-2
-unfolding flatReply id_of refusalOf
-returns-2 c = rw (c.before.before.a2.given.1, c.number_of.ensures)
+returns_2 : tie.Need-returns-2
+unfolding flat_reply id_of refusal_of
+returns_2 c = rw (c.before.before.a2.given.1, c.number_of.ensures)
 
-pub flat-answer-spec : {M : Type 1} → statement M
-flat-answer-spec =
-    tie.close (tie.spec enum-known-a cast-t5 enum-known-a-2 number-of-requires returns returns-2)
+pub flat_answer_spec : {M : Type 1} → statement M
+flat_answer_spec =
+    tie.close (tie.spec enum-known-a cast-t5 enum-known-a-2 number-of-requires returns returns_2)

@@ -1,5 +1,5 @@
 use mathlib.Core.Path.{refl}
-use Rattle.c_board.specs.Words.{idsWord}
+use Rattle.c_board.specs.Words.{ids_word}
 use borrow.Author.Rules.{rules}
 use Rattle.c_board.proofs.ids_word.Statement.{statement}
 use Rattle.c_board.proofs.ids_word.Tie as tie
@@ -24,8 +24,8 @@ add-result c = search rules
 
 -- src/lib.rt:61:1
 returns : tie.Need-returns
-unfolding idsWord
+unfolding ids_word
 returns c = refl
 
-pub ids-word-spec : {M : Type 1} → statement M
-ids-word-spec = tie.close (tie.spec cast-result mul-result cast-result-2 add-result returns)
+pub ids_word_spec : {M : Type 1} → statement M
+ids_word_spec = tie.close (tie.spec cast-result mul-result cast-result-2 add-result returns)

@@ -19,9 +19,9 @@ unfolding number_of
 returns c = rw c.enum_told.given.1
 
 -- src/lib.rt:94:1
-returns-2 : tie.Need-returns-2
+returns_2 : tie.Need-returns-2
 unfolding number_of
-returns-2 c = rw c.enum-told2.given.1
+returns_2 c = rw c.enum-told2.given.1
 
-pub number-of-spec : {M : Type 1} → statement M
-number-of-spec = tie.close (tie.spec enum_told enum-told-2 returns returns-2)
+pub number_of_spec : {M : Type 1} → statement M
+number_of_spec = tie.close (tie.spec enum_told enum-told-2 returns returns_2)

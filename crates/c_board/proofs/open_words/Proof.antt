@@ -1,7 +1,7 @@
 use mathlib.Core.Path.{◌≡◌, refl, sym, ◌∙◌, ap}
 use native.Mathlib.Omega.{arith}
 use borrow.Author.Tests.{lt-ltb, le-ltb}
-use Rattle.channels.specs.Channels.{openOf}
+use Rattle.channels.specs.Channels.{open_of}
 use Rattle.channels.specs.declared.SharedBoard.{SharedBoard}
 use Rattle.c_board.specs.Lent.{opened}
 use borrow.Author.Rules.{rules}
@@ -9,11 +9,11 @@ use Rattle.c_board.proofs.open_words.Statement.{statement}
 use Rattle.c_board.proofs.open_words.Tie as tie
 use Rattle.c_board.proofs.open_words.Reads as reads
 use Rattle.c_board.proofs.open_words.Lts as lts
-use Rattle.channels.proofs.open_break.Reads as open-break-reads
-use Rattle.c_board.proofs.board_given.Reads as board-given-reads
-use Rattle.c_board.proofs.flat_reply.Reads as flat-reply-reads
-use Rattle.c_board.proofs.settle.Reads as settle-reads
-use Rattle.c_board.proofs.too_short.Reads as too-short-reads
+use Rattle.channels.proofs.open_break.Reads as open_break_reads
+use Rattle.c_board.proofs.board_given.Reads as board_given_reads
+use Rattle.c_board.proofs.flat_reply.Reads as flat_reply_reads
+use Rattle.c_board.proofs.settle.Reads as settle_reads
+use Rattle.c_board.proofs.too_short.Reads as too_short_reads
 
 -- src/lib.rt:155:9
 too-short-requires : tie.Need-too-short-requires
@@ -45,19 +45,19 @@ same_length : tie.Need-same-length
 same_length c = search rules
 
 -- src/lib.rt:150:1
-returns-2 : tie.Need-returns-2
+returns_2 : tie.Need-returns-2
 unfolding opened
-returns-2 c =
+returns_2 c =
     let t = c.before.before in
     let f = t.before in
     let o = f.before.before.before in
     let g = o.before in
     let e = le-ltb _ 66 g.before.before.if1.false in
-    let s = o.open-break.ensures ∙ ap (λ (b : SharedBoard). openOf b g.before.before.before.before.args.channel g.before.before.before.before.args.provider) g.board-given.ensures in
+    let s = o.open-break.ensures ∙ ap (λ (b : SharedBoard). open_of b g.before.before.before.before.args.channel g.before.before.before.before.args.provider) g.board-given.ensures in
     (rw (e, ← s) (t.settle.ensures.0 ∙ f.flat-reply.ensures), rw (e, ← s, ← f.flat-reply.ensures) t.settle.ensures.1)
 
-pub open-words-spec : {M : Type 1} → statement M
-open-words-spec =
+pub open_words_spec : {M : Type 1} → statement M
+open_words_spec =
     tie.close
     (tie.spec
     too-short-requires
@@ -67,4 +67,4 @@ open-words-spec =
     flat-reply-requires
     settle-requires
     same_length
-    returns-2)
+    returns_2)

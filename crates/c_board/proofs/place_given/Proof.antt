@@ -1,5 +1,5 @@
 use mathlib.Core.Path.{refl}
-use Rattle.c_board.specs.Words.{placeGiven}
+use Rattle.c_board.specs.Words.{place_given}
 use borrow.Author.Rules.{rules}
 use Rattle.c_board.proofs.place_given.Statement.{statement}
 use Rattle.c_board.proofs.place_given.Tie as tie
@@ -16,8 +16,8 @@ cast-t8 c = search rules
 
 -- src/lib.rt:26:1
 returns : tie.Need-returns
-unfolding placeGiven
+unfolding place_given
 returns c = refl
 
-pub place-given-spec : {M : Type 1} → statement M
-place-given-spec = tie.close (tie.spec cast-t6 cast-t8 returns)
+pub place_given_spec : {M : Type 1} → statement M
+place_given_spec = tie.close (tie.spec cast-t6 cast-t8 returns)

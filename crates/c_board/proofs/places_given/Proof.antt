@@ -4,19 +4,19 @@ use native.Mathlib.Omega.{arith}
 use lib.ListN.{length, replicate}
 use lib.Seq.{paste, paste-zero}
 use borrow.Author.Rules.{rules}
-use Rattle.board.specs.Board.{blankPlace}
-use Rattle.c_section.proofs.Arrays.{filled-turn, filled-all}
-use Rattle.c_board.specs.Words.{placesGiven}
-use Rattle.c_board.proofs.Words.{places-many, place-there}
+use Rattle.board.specs.Board.{blank_place}
+use Rattle.c_section.proofs.Arrays.{filled_turn, filled_all}
+use Rattle.c_board.specs.Words.{places_given}
+use Rattle.c_board.proofs.Words.{places_many, place_there}
 use Rattle.c_board.proofs.places_given.Statement.{statement}
 use Rattle.c_board.proofs.places_given.Tie as tie
 use Rattle.c_board.proofs.places_given.Reads as reads
 use Rattle.c_board.proofs.places_given.Lts as lts
-use Rattle.board.proofs.blank_place.Reads as blank-place-reads
-use Rattle.c_board.proofs.place_given.Reads as place-given-reads
+use Rattle.board.proofs.blank_place.Reads as blank_place_reads
+use Rattle.c_board.proofs.place_given.Reads as place_given_reads
 
 abbrev invariant-loop : tie.invariant-loop
-invariant-loop words out₀ i₀ out i = (i ≤ 32) × (66 ≤ length words) × (out ≡ paste (replicate 32 blankPlace) 0 (placesGiven words) i)
+invariant-loop words out₀ i₀ out i = (i ≤ 32) × (66 ≤ length words) × (out ≡ paste (replicate 32 blank_place) 0 (places_given words) i)
 
 abbrev decreases-loop : tie.decreases-loop
 decreases-loop words out₀ i₀ out i = 32 - i
@@ -27,7 +27,7 @@ blank-place-requires c κs = search rules
 
 -- src/lib.rt:43:5
 loop-holds : tie.Need-loop-init invariant-loop decreases-loop
-loop-holds c = (omega arith, c.before.before.requires, rw c.blank-place.ensures (paste-zero (replicate 32 blankPlace) 0 (placesGiven c.before.before.args.words.now)))
+loop-holds c = (omega arith, c.before.before.requires, rw c.blank-place.ensures (paste-zero (replicate 32 blank_place) 0 (places_given c.before.before.args.words.now)))
 
 -- src/lib.rt:44:30
 mul-place-given : tie.Need-overflow-mul-place-given invariant-loop decreases-loop
@@ -74,14 +74,14 @@ loop-again : tie.Need-loop-preserved invariant-loop decreases-loop
 loop-again c =
     let l = c.before.before.before.before in
     let w = l.before.before.before.args.words.now in
-    (omega arith, l.loop.invariant.1, filled-turn _ (placesGiven w) _ l.loop.i _ blankPlace (omega arith) (omega (arith, places-many w)) (c.place-given.ensures ∙ sym (place-there w l.loop.i (omega arith))) l.loop.invariant.2)
+    (omega arith, l.loop.invariant.1, filled_turn _ (places_given w) _ l.loop.i _ blank_place (omega arith) (omega (arith, places_many w)) (c.place-given.ensures ∙ sym (place_there w l.loop.i (omega arith))) l.loop.invariant.2)
 
 -- src/lib.rt:36:1
 returns : tie.Need-returns invariant-loop decreases-loop
-returns c = let l = c.before.loop in filled-all _ (placesGiven c.before.before.before.before.args.words.now) _ l.i (omega (arith, places-many c.before.before.before.before.args.words.now)) (omega arith) l.invariant.2
+returns c = let l = c.before.loop in filled_all _ (places_given c.before.before.before.before.args.words.now) _ l.i (omega (arith, places_many c.before.before.before.before.args.words.now)) (omega arith) l.invariant.2
 
-pub places-given-spec : {M : Type 1} → statement M
-places-given-spec =
+pub places_given_spec : {M : Type 1} → statement M
+places_given_spec =
     tie.close
     (tie.spec
     invariant-loop

@@ -4,14 +4,14 @@ use native.Mathlib.Omega.{arith}
 use lib.ListN.{length, length-set}
 use lib.Seq.{paste, paste-zero}
 use borrow.Author.Rules.{rules}
-use Rattle.c_section.proofs.Arrays.{filled-turn}
+use Rattle.c_section.proofs.Arrays.{filled_turn}
 use Rattle.c_board.specs.Words.{word_at, words_of}
-use Rattle.c_board.proofs.Words.{length-listed, stored-all, word-there}
+use Rattle.c_board.proofs.Words.{length_listed, stored_all, word_there}
 use Rattle.c_board.proofs.put_board.Statement.{statement}
 use Rattle.c_board.proofs.put_board.Tie as tie
 use Rattle.c_board.proofs.put_board.Reads as reads
 use Rattle.c_board.proofs.put_board.Lts as lts
-use Rattle.c_board.proofs.word_of.Reads as word-of-reads
+use Rattle.c_board.proofs.word_of.Reads as word_of_reads
 
 abbrev invariant-loop : tie.invariant-loop
 invariant-loop words₀ places whose next i₀ words i = (i ≤ 66) × (66 ≤ length words₀) × (length words ≡ length words₀) × (words ≡ paste words₀ 0 (words_of (record { places = places; whose = whose; next = next })) i)
@@ -72,7 +72,7 @@ loop-again c =
       omega arith,
       v.1,
       simp length-set v.2,
-      filled-turn _ _ _ l.loop.i _ 0 (omega (arith, v.1)) (omega (arith, length-listed (word_at b) 0 66)) (c.word_of.ensures ∙ sym (word-there b l.loop.i (omega arith))) v.3,
+      filled_turn _ _ _ l.loop.i _ 0 (omega (arith, v.1)) (omega (arith, length_listed (word_at b) 0 66)) (c.word_of.ensures ∙ sym (word_there b l.loop.i (omega arith))) v.3,
     )
 
 -- src/lib.rt:110:1
@@ -81,10 +81,10 @@ same_length c = c.before.loop.invariant.2
 
 -- src/lib.rt:110:1
 returns : tie.Need-returns invariant-loop decreases-loop
-returns c = let l = c.before.loop in stored-all _ _ _ l.i (length-listed _ 0 66) l.invariant.0 (omega arith) l.invariant.3
+returns c = let l = c.before.loop in stored_all _ _ _ l.i (length_listed _ 0 66) l.invariant.0 (omega arith) l.invariant.3
 
-pub put-board-spec : {M : Type 1} → statement M
-put-board-spec =
+pub put_board_spec : {M : Type 1} → statement M
+put_board_spec =
     tie.close
     (tie.spec
     invariant-loop

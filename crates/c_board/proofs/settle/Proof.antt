@@ -5,7 +5,7 @@ use Rattle.c_board.proofs.settle.Statement.{statement}
 use Rattle.c_board.proofs.settle.Tie as tie
 use Rattle.c_board.proofs.settle.Reads as reads
 use Rattle.c_board.proofs.settle.Lts as lts
-use Rattle.c_board.proofs.put_board.Reads as put-board-reads
+use Rattle.c_board.proofs.put_board.Reads as put_board_reads
 
 -- src/lib.rt:127:9
 put-board-requires : tie.Need-put-board-requires
@@ -20,8 +20,8 @@ returns : tie.Need-returns
 returns c = let p = c.before.before in (refl, rw (eq-eqb _ 0 p.before.before.if1.true) p.put-board.ensures)
 
 -- src/lib.rt:121:1
-returns-2 : tie.Need-returns-2
-returns-2 c = (refl, rw (ne_eqb _ 0 c.if1.false))
+returns_2 : tie.Need-returns-2
+returns_2 c = (refl, rw (ne_eqb _ 0 c.if1.false))
 
-pub settle-spec : {M : Type 1} → statement M
-settle-spec = tie.close (tie.spec put-board-requires same_length returns returns-2)
+pub settle_spec : {M : Type 1} → statement M
+settle_spec = tie.close (tie.spec put-board-requires same_length returns returns_2)

@@ -4,23 +4,23 @@ use native.Mathlib.Omega.{arith}
 use lib.ListN.{length, replicate}
 use lib.Seq.{paste, paste-zero}
 use borrow.Author.Rules.{rules}
-use Rattle.c_section.proofs.Arrays.{filled-turn, filled-all}
-use Rattle.c_board.specs.Words.{whoseGiven}
-use Rattle.c_board.proofs.Words.{whose-many, whose-there}
+use Rattle.c_section.proofs.Arrays.{filled_turn, filled_all}
+use Rattle.c_board.specs.Words.{whose_given}
+use Rattle.c_board.proofs.Words.{whose_many, whose_there}
 use Rattle.c_board.proofs.whose_given.Statement.{statement}
 use Rattle.c_board.proofs.whose_given.Tie as tie
 use Rattle.c_board.proofs.whose_given.Reads as reads
 use Rattle.c_board.proofs.whose_given.Lts as lts
 
 abbrev invariant-loop : tie.invariant-loop
-invariant-loop words out₀ i₀ out i = (i ≤ 32) × (66 ≤ length words) × (out ≡ paste (replicate 32 0) 0 (whoseGiven words) i)
+invariant-loop words out₀ i₀ out i = (i ≤ 32) × (66 ≤ length words) × (out ≡ paste (replicate 32 0) 0 (whose_given words) i)
 
 abbrev decreases-loop : tie.decreases-loop
 decreases-loop words out₀ i₀ out i = 32 - i
 
 -- src/lib.rt:58:5
 loop-holds : tie.Need-loop-init invariant-loop decreases-loop
-loop-holds c = (omega arith, c.requires, paste-zero (replicate 32 0) 0 (whoseGiven c.args.words.now))
+loop-holds c = (omega arith, c.requires, paste-zero (replicate 32 0) 0 (whose_given c.args.words.now))
 
 -- src/lib.rt:59:25
 add-out : tie.Need-overflow-add-out invariant-loop decreases-loop
@@ -55,14 +55,14 @@ loop-again : tie.Need-loop-preserved invariant-loop decreases-loop
 loop-again c =
     let l = c.before.before in
     let w = l.before.args.words.now in
-    (omega arith, l.loop.invariant.1, filled-turn _ (whoseGiven w) _ l.loop.i _ 0 (omega arith) (omega (arith, whose-many w)) (sym (whose-there w l.loop.i (omega arith))) l.loop.invariant.2)
+    (omega arith, l.loop.invariant.1, filled_turn _ (whose_given w) _ l.loop.i _ 0 (omega arith) (omega (arith, whose_many w)) (sym (whose_there w l.loop.i (omega arith))) l.loop.invariant.2)
 
 -- src/lib.rt:52:1
 returns : tie.Need-returns invariant-loop decreases-loop
-returns c = let l = c.before.loop in let w = c.before.before.args.words.now in filled-all _ (whoseGiven w) _ l.i (omega (arith, whose-many w)) (omega arith) l.invariant.2
+returns c = let l = c.before.loop in let w = c.before.before.args.words.now in filled_all _ (whose_given w) _ l.i (omega (arith, whose_many w)) (omega arith) l.invariant.2
 
-pub whose-given-spec : {M : Type 1} → statement M
-whose-given-spec =
+pub whose_given_spec : {M : Type 1} → statement M
+whose_given_spec =
     tie.close
     (tie.spec
     invariant-loop

@@ -47,14 +47,14 @@ loop-again c =
     let a = l.before.before.before.args in
     (omega arith, turn _ _ _ _ l.loop.invariant.1 (same_step a.own.now a.words.now l.loop.i (omega arith)) (eq-eqb _ _ (sym w.word_at.ensures ∙ c.if1.false)))
 
-returns-2 : tie.Need-returns-2 invariant-loop decreases-loop
-returns-2 c =
+returns_2 : tie.Need-returns-2 invariant-loop decreases-loop
+returns_2 c =
     let l = c.before in
     let a = l.before.before.before.args in
     sym (same_end a.own.now a.words.now l.loop.i (omega arith)) ∙ l.loop.invariant.1
 
-pub are-same-spec : {M : Type 1} → statement M
-are-same-spec =
+pub are_same_spec : {M : Type 1} → statement M
+are_same_spec =
     tie.close
     (tie.spec
     invariant-loop
@@ -67,4 +67,4 @@ are-same-spec =
     add-i
     loop-less
     loop-again
-    returns-2)
+    returns_2)

@@ -53,14 +53,14 @@ loop-again c =
     let a = l.before.before.before.args in
     (omega arith, turn _ _ _ _ l.loop.invariant.1 (within_step a.widths.now a.words.now l.loop.i (omega arith)) (sym (w.is_Within.ensures ∙ ap (λ (x : ℕ). ltb x (2 ^ get_or a.widths.now l.loop.i 0)) w.before.word_at.ensures) ∙ not-false _ c.if1.false))
 
-returns-2 : tie.Need-returns-2 invariant-loop decreases-loop
-returns-2 c =
+returns_2 : tie.Need-returns-2 invariant-loop decreases-loop
+returns_2 c =
     let l = c.before in
     let a = l.before.before.before.args in
     sym (within_end a.widths.now a.words.now l.loop.i (omega arith)) ∙ l.loop.invariant.1
 
-pub are-within-spec : {M : Type 1} → statement M
-are-within-spec =
+pub are_within_spec : {M : Type 1} → statement M
+are_within_spec =
     tie.close
     (tie.spec
     invariant-loop
@@ -74,4 +74,4 @@ are-within-spec =
     add-i
     loop-less
     loop-again
-    returns-2)
+    returns_2)

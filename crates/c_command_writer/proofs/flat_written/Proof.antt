@@ -1,6 +1,6 @@
 -- `c_command_writer::flat_written` meets its contract.
 use borrow.Author.Rules.{rules}
-use Rattle.c_command_writer.specs.Words.{flatWritten}
+use Rattle.c_command_writer.specs.Words.{flat_written}
 use Rattle.c_command_writer.proofs.flat_written.Statement.{statement}
 use Rattle.c_command_writer.proofs.flat_written.Tie as tie
 
@@ -14,12 +14,12 @@ cast-t6 : tie.Need-overflow-cast-t6
 cast-t6 c = search rules
 
 returns : tie.Need-returns
-unfolding flatWritten
+unfolding flat_written
 returns c = rw c.before.w.given.1
 
-returns-2 : tie.Need-returns-2
-unfolding flatWritten
-returns-2 c = rw c.before.w2.given.1
+returns_2 : tie.Need-returns-2
+unfolding flat_written
+returns_2 c = rw c.before.w2.given.1
 
-pub flat-written-spec : {M : Type 1} → statement M
-flat-written-spec = tie.close (tie.spec enum-known-w enum-known-w-2 cast-t6 returns returns-2)
+pub flat_written_spec : {M : Type 1} → statement M
+flat_written_spec = tie.close (tie.spec enum-known-w enum-known-w-2 cast-t6 returns returns_2)

@@ -19,12 +19,12 @@ cast-t7 c = search rules
 returns : tie.Need-returns
 returns c = rw (c.before.before.tried.given.1, lt-ltb _ _ c.if1.true)
 
-returns-2 : tie.Need-returns-2
-returns-2 c = rw c.enum_told.given.1
+returns_2 : tie.Need-returns-2
+returns_2 c = rw c.enum_told.given.1
 
-returns-3 : tie.Need-returns-3
-returns-3 c = rw (c.before.before.tried.given.1, le-ltb _ _ c.if1.false)
+returns_3 : tie.Need-returns-3
+returns_3 c = rw (c.before.before.tried.given.1, le-ltb _ _ c.if1.false)
 
-pub lower-refusal-spec : {M : Type 1} → statement M
-lower-refusal-spec =
-    tie.close (tie.spec enum_told enum-known-tried cast-if1 cast-t7 returns returns-2 returns-3)
+pub lower_refusal_spec : {M : Type 1} → statement M
+lower_refusal_spec =
+    tie.close (tie.spec enum_told enum-known-tried cast-if1 cast-t7 returns returns_2 returns_3)

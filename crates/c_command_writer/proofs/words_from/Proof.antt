@@ -39,13 +39,13 @@ part-result-start-2 c = search rules
 part-result-end-2 : tie.Need-slice-bounds-result-end-2
 part-result-end-2 c = search rules
 
-returns-2 : tie.Need-returns-2
-returns-2 c =
+returns_2 : tie.Need-returns-2
+returns_2 c =
     let a = c.before.before.args in
     take_all (length a.words.now - a.at) (drop a.at a.words.now) (omega (arith, length-drop a.at a.words.now))
 
-pub words-from-spec : {M : Type 1} → statement M
-words-from-spec =
+pub words_from_spec : {M : Type 1} → statement M
+words_from_spec =
     tie.close
     (tie.spec
     mul-result
@@ -57,4 +57,4 @@ words-from-spec =
     sub-result-2
     part-result-start-2
     part-result-end-2
-    returns-2)
+    returns_2)

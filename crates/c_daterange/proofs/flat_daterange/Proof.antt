@@ -1,6 +1,6 @@
 -- `c_daterange::flat_daterange`: a reading, or a refusal.
 use borrow.Author.Rules.{rules}
-use Rattle.c_daterange.specs.FlatDaterange.{flatDaterange}
+use Rattle.c_daterange.specs.FlatDaterange.{flat_daterange}
 use Rattle.c_daterange.proofs.flat_daterange.Statement.{statement}
 use Rattle.c_daterange.proofs.flat_daterange.Tie as tie
 
@@ -23,17 +23,17 @@ cast-t12 : tie.Need-overflow-cast-t12
 cast-t12 c = search rules
 
 returns : tie.Need-returns
-unfolding flatDaterange
+unfolding flat_daterange
 returns c =
     let v = c.before.before in
     rw (v.before.before.before.before.x.given.1, v.flat_view.ensures, c.before.flat-view2.ensures, c.name-number.ensures)
 
-returns-2 : tie.Need-returns-2
-unfolding flatDaterange
-returns-2 c = rw c.before.x2.given.1
+returns_2 : tie.Need-returns-2
+unfolding flat_daterange
+returns_2 c = rw c.before.x2.given.1
 
-pub flat-daterange-spec : {M : Type 1} → statement M
-flat-daterange-spec =
+pub flat_daterange_spec : {M : Type 1} → statement M
+flat_daterange_spec =
     tie.close
     (tie.spec
     enum-known-x
@@ -43,4 +43,4 @@ flat-daterange-spec =
     enum-known-x-2
     cast-t12
     returns
-    returns-2)
+    returns_2)

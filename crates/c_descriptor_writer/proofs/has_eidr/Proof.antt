@@ -14,8 +14,8 @@ returns c = rw (ne_eqb _ _ (λ e. c.if1.true (c.before.word_at.ensures ∙ e)))
 word-at-requires-2 : tie.Need-word-at-requires-2
 word-at-requires-2 c κs = search rules
 
-returns-2 : tie.Need-returns-2
-returns-2 c = rw (eq-eqb _ _ (sym c.before.before.word_at.ensures ∙ c.before.if1.false), c.word-at2.ensures)
+returns_2 : tie.Need-returns-2
+returns_2 c = rw (eq-eqb _ _ (sym c.before.before.word_at.ensures ∙ c.before.if1.false), c.word-at2.ensures)
 
-pub has-eidr-spec : {M : Type 1} → statement M
-has-eidr-spec = tie.close (tie.spec word-at-requires returns word-at-requires-2 returns-2)
+pub has_eidr_spec : {M : Type 1} → statement M
+has_eidr_spec = tie.close (tie.spec word-at-requires returns word-at-requires-2 returns_2)

@@ -1,7 +1,7 @@
 -- `c_descriptor_writer::is_item_seen`: the view that the last two words are.
 use borrow.Author.Rules.{rules}
 use mathlib.Core.Path.{◌≡◌, ◌∙◌}
-use Rattle.c_descriptor_writer.specs.ItemWords.{itemSeen}
+use Rattle.c_descriptor_writer.specs.ItemWords.{item_seen}
 use Rattle.c_descriptor_writer.proofs.is_item_seen.Statement.{statement}
 use Rattle.c_descriptor_writer.proofs.is_item_seen.Tie as tie
 
@@ -15,8 +15,8 @@ lies-in-requires : tie.Need-lies-in-requires
 lies-in-requires c κs = search rules
 
 returns : tie.Need-returns
-unfolding itemSeen
+unfolding item_seen
 returns c = c.lies_in.ensures ∙ rw (c.before.word-at2.ensures, c.before.before.word_at.ensures)
 
-pub is-item-seen-spec : {M : Type 1} → statement M
-is-item-seen-spec = tie.close (tie.spec word-at-requires word-at-requires-2 lies-in-requires returns)
+pub is_item_seen_spec : {M : Type 1} → statement M
+is_item_seen_spec = tie.close (tie.spec word-at-requires word-at-requires-2 lies-in-requires returns)

@@ -7,11 +7,11 @@ use native.Mathlib.Nat.{mul-one}
 use native.Mathlib.Omega.{arith}
 use lib.ListN.{length, get_or, drop, replicate, length-set}
 use lib.Seq.{paste, paste-zero}
-use Rattle.c_section.proofs.Arrays.{filled-turn, filled-all}
+use Rattle.c_section.proofs.Arrays.{filled_turn, filled_all}
 use Rattle.c_command_writer.specs.Words.{places_of}
-use Rattle.c_descriptor_writer.specs.ItemGiven.{first_word, paddedWords}
-use Rattle.c_command_writer.proofs.Words.{places-length, places-at}
-use Rattle.c_descriptor_writer.proofs.FilledUp.{word-at-place}
+use Rattle.c_descriptor_writer.specs.ItemGiven.{first_word, padded_words}
+use Rattle.c_command_writer.proofs.Words.{places_length, places_at}
+use Rattle.c_descriptor_writer.proofs.FilledUp.{word_at_place}
 use Rattle.c_descriptor_writer.proofs.padded.Statement.{statement}
 use Rattle.c_descriptor_writer.proofs.padded.Tie as tie
 
@@ -45,18 +45,18 @@ loop-again : tie.Need-loop-preserved invariant-loop decreases-loop
 loop-again c =
     let l = c.before.before in
     let a = l.before.before.args in
-    let e = c.word_at.ensures ∙ word-at-place a.words.now l.loop.i ∙ places-at first_word 1 33 a.words.now l.loop.i 0 (omega arith) in
-    (omega arith, length-set l.loop.out l.loop.i _ ∙ l.loop.invariant.1, filled-turn (replicate 33 0) (places_of first_word 1 33 a.words.now) l.loop.out l.loop.i _ 0 (omega arith) (omega (arith, places-length first_word 1 33 a.words.now)) e l.loop.invariant.2)
+    let e = c.word_at.ensures ∙ word_at_place a.words.now l.loop.i ∙ places_at first_word 1 33 a.words.now l.loop.i 0 (omega arith) in
+    (omega arith, length-set l.loop.out l.loop.i _ ∙ l.loop.invariant.1, filled_turn (replicate 33 0) (places_of first_word 1 33 a.words.now) l.loop.out l.loop.i _ 0 (omega arith) (omega (arith, places_length first_word 1 33 a.words.now)) e l.loop.invariant.2)
 
 returns : tie.Need-returns invariant-loop decreases-loop
-unfolding paddedWords
+unfolding padded_words
 returns c =
     let l = c.before in
     let a = l.before.before.args in
-    filled-all (replicate 33 0) (places_of first_word 1 33 a.words.now) l.loop.out l.loop.i (omega (arith, places-length first_word 1 33 a.words.now)) (omega arith) l.loop.invariant.2
+    filled_all (replicate 33 0) (places_of first_word 1 33 a.words.now) l.loop.out l.loop.i (omega (arith, places_length first_word 1 33 a.words.now)) (omega arith) l.loop.invariant.2
 
-pub padded-spec : {M : Type 1} → statement M
-padded-spec =
+pub padded_spec : {M : Type 1} → statement M
+padded_spec =
     tie.close
     (tie.spec
     invariant-loop

@@ -1,8 +1,8 @@
 -- `feed_words`: what `feed` answers, and the state kept where there is no refusal.
 use mathlib.Core.Path.{◌≡◌, ap, sym, ◌∙◌}
 use Rattle.transport.specs.declared.Assembler.{Assembler}
-use Rattle.transport.specs.Assembler.{FedTo, fedOf}
-use Rattle.c_packet.specs.PacketWords.{fedNumber, keptFed}
+use Rattle.transport.specs.Assembler.{FedTo, fed_of}
+use Rattle.c_packet.specs.PacketWords.{fed_number, kept_fed}
 use borrow.Author.Rules.{rules}
 use Rattle.c_packet.proofs.feed_words.Statement.{statement}
 use Rattle.c_packet.proofs.feed_words.Tie as tie
@@ -26,15 +26,15 @@ same-length-2 : tie.Need-same-length-2
 same-length-2 c = search rules
 
 returns : tie.Need-returns
-unfolding fedNumber keptFed
+unfolding fed_number kept_fed
 returns c =
     let k = c.before.before in
     let f = k.before.before.before.before.before.before.before in
     let s = f.before.before in
     let a = s.before.before.before.before.before.args in
-    let e = f.feed.ensures ∙ ap (λ (x : Assembler). fedOf x a.packet.now a.buffer.now) s.state-in.ensures in
+    let e = f.feed.ensures ∙ ap (λ (x : Assembler). fed_of x a.packet.now a.buffer.now) s.state-in.ensures in
     let d = sym k.before.before.before.fed.given.1 ∙ ap (λ (x : FedTo). x.answer) e in
-    (ap fedNumber d, (k.keep.ensures ∙ ap (keptFed a.words.now) d, ap (λ (x : FedTo). x.buffer) e))
+    (ap fed_number d, (k.keep.ensures ∙ ap (kept_fed a.words.now) d, ap (λ (x : FedTo). x.buffer) e))
 
 enum-known-fed-2 : tie.Need-enum-known-fed-2
 enum-known-fed-2 c = search rules
@@ -48,18 +48,18 @@ same-length-3 c = search rules
 same-length-4 : tie.Need-same-length-4
 same-length-4 c = search rules
 
-returns-2 : tie.Need-returns-2
-unfolding fedNumber keptFed
-returns-2 c =
+returns_2 : tie.Need-returns-2
+unfolding fed_number kept_fed
+returns_2 c =
     let f = c.before.before.before.before.before.before in
     let s = f.before.before in
     let a = s.before.before.before.before.before.args in
-    let e = f.feed.ensures ∙ ap (λ (x : Assembler). fedOf x a.packet.now a.buffer.now) s.state-in.ensures in
+    let e = f.feed.ensures ∙ ap (λ (x : Assembler). fed_of x a.packet.now a.buffer.now) s.state-in.ensures in
     let d = sym c.before.before.fed2.given.1 ∙ ap (λ (x : FedTo). x.answer) e in
-    (c.number.ensures ∙ ap fedNumber d, (ap (keptFed a.words.now) d, ap (λ (x : FedTo). x.buffer) e))
+    (c.number.ensures ∙ ap fed_number d, (ap (kept_fed a.words.now) d, ap (λ (x : FedTo). x.buffer) e))
 
-pub feed-words-spec : {M : Type 1} → statement M
-feed-words-spec =
+pub feed_words_spec : {M : Type 1} → statement M
+feed_words_spec =
     tie.close
     (tie.spec
     state-in-requires
@@ -73,4 +73,4 @@ feed-words-spec =
     number-requires
     same-length-3
     same-length-4
-    returns-2)
+    returns_2)

@@ -4,7 +4,7 @@ use mathlib.Core.List.{List}
 use mathlib.Core.Path.{ap, ◌∙◌}
 use native.Mathlib.Omega.{arith}
 use lib.ListN.{set, length-set}
-use Rattle.c_packet.proofs.Words.{four-set}
+use Rattle.c_packet.proofs.Words.{four_set}
 use borrow.Author.Rules.{rules}
 use Rattle.c_packet.proofs.keep.Statement.{statement}
 use Rattle.c_packet.proofs.keep.Tie as tie
@@ -27,7 +27,7 @@ same_length : tie.Need-same-length
 same_length c = search rules
 
 returns : tie.Need-returns
-returns c = let a = c.before.before.args in four-set a.words.now a.a
+returns c = let a = c.before.before.args in four_set a.words.now a.a
 
 put-word-requires : tie.Need-put-word-requires
 put-word-requires c κs = search rules
@@ -44,8 +44,8 @@ put-word-requires-4 c κs = search rules
 same-length-2 : tie.Need-same-length-2
 same-length-2 c = search rules
 
-returns-2 : tie.Need-returns-2
-returns-2 c =
+returns_2 : tie.Need-returns-2
+returns_2 c =
     let n = c.before.before in
     let m = n.before.before.before.before in
     let l = m.before.before.before.before in
@@ -54,7 +54,7 @@ returns-2 c =
     n.put-word4.ensures
     ∙ ap (λ (w : List ℕ). set w 3 a.a.at)
     (m.put-word3.ensures ∙ ap (λ (w : List ℕ). set w 2 a.a.held) (l.put-word2.ensures ∙ ap (λ (w : List ℕ). set w 1 a.a.counter) k.put_word.ensures))
-    ∙ four-set a.words.now a.a
+    ∙ four_set a.words.now a.a
 
 pub keep_spec : {M : Type 1} → statement M
 keep_spec =
@@ -71,4 +71,4 @@ keep_spec =
     put-word-requires-3
     put-word-requires-4
     same-length-2
-    returns-2)
+    returns_2)

@@ -3,7 +3,7 @@ use Prim.Native.Nat.{ℕ}
 use mathlib.Core.List.{List}
 use mathlib.Core.Path.{ap, ◌∙◌}
 use lib.ListN.{set}
-use Rattle.c_packet.proofs.Words.{two-set}
+use Rattle.c_packet.proofs.Words.{two_set}
 use borrow.Author.Rules.{rules}
 use Rattle.c_packet.proofs.keep_place.Statement.{statement}
 use Rattle.c_packet.proofs.keep_place.Tie as tie
@@ -18,7 +18,7 @@ same_length : tie.Need-same-length
 same_length c = search rules
 
 returns : tie.Need-returns
-returns c = let a = c.before.before.args in two-set a.words.now a.held a.at
+returns c = let a = c.before.before.args in two_set a.words.now a.held a.at
 
 put-word-requires : tie.Need-put-word-requires
 put-word-requires c κs = search rules
@@ -29,15 +29,15 @@ put-word-requires-2 c κs = search rules
 same-length-2 : tie.Need-same-length-2
 same-length-2 c = search rules
 
-returns-2 : tie.Need-returns-2
-returns-2 c =
+returns_2 : tie.Need-returns-2
+returns_2 c =
     let n = c.before.before in
     let m = n.before.before.before.before in
     let a = m.before.before.before.before.args in
-    n.put-word2.ensures ∙ ap (λ (w : List ℕ). set w 3 a.at) m.put_word.ensures ∙ two-set a.words.now a.held a.at
+    n.put-word2.ensures ∙ ap (λ (w : List ℕ). set w 3 a.at) m.put_word.ensures ∙ two_set a.words.now a.held a.at
 
-pub keep-place-spec : {M : Type 1} → statement M
-keep-place-spec =
+pub keep_place_spec : {M : Type 1} → statement M
+keep_place_spec =
     tie.close
     (tie.spec
     slice-write-words
@@ -47,4 +47,4 @@ keep-place-spec =
     put-word-requires
     put-word-requires-2
     same-length-2
-    returns-2)
+    returns_2)

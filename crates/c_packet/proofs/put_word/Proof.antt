@@ -17,8 +17,8 @@ same_length c = search rules
 returns : tie.Need-returns
 returns c = search rules
 
-returns-2 : tie.Need-returns-2
-returns-2 c = let a = c.before.args in sym (set_past a.words.now a.at a.v c.if1.false)
+returns_2 : tie.Need-returns-2
+returns_2 c = let a = c.before.args in sym (set_past a.words.now a.at a.v c.if1.false)
 
-pub put-word-spec : {M : Type 1} → statement M
-put-word-spec = tie.close (tie.spec mul_words slice-write-words same_length returns returns-2)
+pub put_word_spec : {M : Type 1} → statement M
+put_word_spec = tie.close (tie.spec mul_words slice-write-words same_length returns returns_2)

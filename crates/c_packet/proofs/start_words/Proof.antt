@@ -1,6 +1,6 @@
 -- `start_words`: the fresh state, kept.
 use mathlib.Core.Path.{ap, ◌∙◌}
-use Rattle.c_packet.specs.PacketWords.{keptIn}
+use Rattle.c_packet.specs.PacketWords.{kept_in}
 use borrow.Author.Rules.{rules}
 use Rattle.c_packet.proofs.start_words.Statement.{statement}
 use Rattle.c_packet.proofs.start_words.Tie as tie
@@ -15,7 +15,7 @@ same_length : tie.Need-same-length
 same_length c = search rules
 
 returns : tie.Need-returns
-returns c = let k = c.before.before in k.keep.ensures ∙ ap (keptIn k.before.before.before.before.args.words.now) k.before.fresh.ensures
+returns c = let k = c.before.before in k.keep.ensures ∙ ap (kept_in k.before.before.before.before.args.words.now) k.before.fresh.ensures
 
-pub start-words-spec : {M : Type 1} → statement M
-start-words-spec = tie.close (tie.spec fresh-requires keep-requires same_length returns)
+pub start_words_spec : {M : Type 1} → statement M
+start_words_spec = tie.close (tie.spec fresh-requires keep-requires same_length returns)

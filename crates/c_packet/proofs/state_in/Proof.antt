@@ -30,11 +30,11 @@ word-at-requires-3 c κs = search rules
 word-at-requires-4 : tie.Need-word-at-requires-4
 word-at-requires-4 c κs = search rules
 
-returns-2 : tie.Need-returns-2
-returns-2 c = rw (c.word-at4.ensures, c.before.word-at3.ensures, c.before.before.word-at2.ensures, c.before.before.before.word_at.ensures)
+returns_2 : tie.Need-returns-2
+returns_2 c = rw (c.word-at4.ensures, c.before.word-at3.ensures, c.before.before.word-at2.ensures, c.before.before.before.word_at.ensures)
 
-pub state-in-spec : {M : Type 1} → statement M
-state-in-spec =
+pub state_in_spec : {M : Type 1} → statement M
+state_in_spec =
     tie.close
     (tie.spec
     shared-slice-read-t5
@@ -46,4 +46,4 @@ state-in-spec =
     word-at-requires-2
     word-at-requires-3
     word-at-requires-4
-    returns-2)
+    returns_2)

@@ -3,8 +3,8 @@ use mathlib.Core.Path.{◌≡◌, ap, sym, ◌∙◌}
 use Rattle.transport.specs.declared.Assembler.{Assembler}
 use Rattle.transport.specs.declared.Taken.{Taken}
 use Rattle.transport.specs.Assembler.{TakenTo, holding, taken_of}
-use Rattle.transport.proofs.Answers.{later, take-keeps}
-use Rattle.c_packet.specs.PacketWords.{stateIn, keptIn, takenNumber, keptTaken}
+use Rattle.transport.proofs.Answers.{later, take_keeps}
+use Rattle.c_packet.specs.PacketWords.{state_in, kept_in, taken_number, kept_taken}
 use borrow.Author.Rules.{rules}
 use Rattle.c_packet.proofs.take_words.Statement.{statement}
 use Rattle.c_packet.proofs.take_words.Tie as tie
@@ -28,17 +28,17 @@ same-length-2 : tie.Need-same-length-2
 same-length-2 c = search rules
 
 returns : tie.Need-returns
-unfolding takenNumber keptTaken
+unfolding taken_number kept_taken
 returns c =
     let k = c.before.before in
     let f = k.before.before.before.before.before.before.before in
     let s = f.before.before in
     let a = s.before.before.before.before.before.args in
-    let w = stateIn a.words.now in
+    let w = state_in a.words.now in
     let e = f.take.ensures ∙ ap (λ (x : Assembler). taken_of x a.packet.now a.buffer.now) s.state-in.ensures in
     let d = sym k.before.before.before.taken.given.1 ∙ ap (λ (x : TakenTo). x.answer) e in
-    let l = ap (λ (x : Taken). holding w (later x).held (later x).at) d ∙ take-keeps w a.packet.now a.buffer.now ∙ sym (ap later d) in
-    (ap takenNumber d, (k.keep-place.ensures ∙ ap (keptIn a.words.now) l ∙ ap (keptTaken a.words.now) d, ap (λ (x : TakenTo). x.buffer) e))
+    let l = ap (λ (x : Taken). holding w (later x).held (later x).at) d ∙ take_keeps w a.packet.now a.buffer.now ∙ sym (ap later d) in
+    (ap taken_number d, (k.keep-place.ensures ∙ ap (kept_in a.words.now) l ∙ ap (kept_taken a.words.now) d, ap (λ (x : TakenTo). x.buffer) e))
 
 enum-known-taken-2 : tie.Need-enum-known-taken-2
 enum-known-taken-2 c = search rules
@@ -52,21 +52,21 @@ same-length-3 c = search rules
 same-length-4 : tie.Need-same-length-4
 same-length-4 c = search rules
 
-returns-2 : tie.Need-returns-2
-unfolding takenNumber keptTaken
-returns-2 c =
+returns_2 : tie.Need-returns-2
+unfolding taken_number kept_taken
+returns_2 c =
     let k = c.before.before in
     let f = k.before.before.before.before.before.before.before in
     let s = f.before.before in
     let a = s.before.before.before.before.before.args in
-    let w = stateIn a.words.now in
+    let w = state_in a.words.now in
     let e = f.take.ensures ∙ ap (λ (x : Assembler). taken_of x a.packet.now a.buffer.now) s.state-in.ensures in
     let d = sym k.before.before.before.taken2.given.1 ∙ ap (λ (x : TakenTo). x.answer) e in
-    let l = ap (λ (x : Taken). holding w (later x).held (later x).at) d ∙ take-keeps w a.packet.now a.buffer.now ∙ sym (ap later d) in
-    (ap takenNumber d, (k.keep-place2.ensures ∙ ap (keptIn a.words.now) l ∙ ap (keptTaken a.words.now) d, ap (λ (x : TakenTo). x.buffer) e))
+    let l = ap (λ (x : Taken). holding w (later x).held (later x).at) d ∙ take_keeps w a.packet.now a.buffer.now ∙ sym (ap later d) in
+    (ap taken_number d, (k.keep-place2.ensures ∙ ap (kept_in a.words.now) l ∙ ap (kept_taken a.words.now) d, ap (λ (x : TakenTo). x.buffer) e))
 
-pub take-words-spec : {M : Type 1} → statement M
-take-words-spec =
+pub take_words_spec : {M : Type 1} → statement M
+take_words_spec =
     tie.close
     (tie.spec
     state-in-requires
@@ -80,4 +80,4 @@ take-words-spec =
     keep-place-requires-2
     same-length-3
     same-length-4
-    returns-2)
+    returns_2)

@@ -1,6 +1,6 @@
 -- `c_section_writer::header_from` meets its contract.
 use borrow.Author.Rules.{rules}
-use Rattle.c_section_writer.specs.SectionGiven.{headerFrom}
+use Rattle.c_section_writer.specs.SectionGiven.{header_from}
 use Rattle.c_section_writer.proofs.header_from.Statement.{statement}
 use Rattle.c_section_writer.proofs.header_from.Tie as tie
 
@@ -38,11 +38,11 @@ cast-t17 : tie.Need-overflow-cast-t17
 cast-t17 c = search rules
 
 returns : tie.Need-returns
-unfolding headerFrom
+unfolding header_from
 returns c = rw (c.word-at6.ensures, c.before.word-at5.ensures, c.before.before.word-at4.ensures, c.before.before.before.from-id.ensures, c.before.before.before.before.word-at3.ensures, c.before.before.before.before.before.word-at2.ensures, c.before.before.before.before.before.before.word_at.ensures)
 
-pub header-from-spec : {M : Type 1} → statement M
-header-from-spec =
+pub header_from_spec : {M : Type 1} → statement M
+header_from_spec =
     tie.close
     (tie.spec
     word-at-requires

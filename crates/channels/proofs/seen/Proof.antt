@@ -1,17 +1,17 @@
 use Rattle.std.proofs.Common.{◌≡◌, ◌-◌, ◌<◌, ◌≤◌, length, replicate, sym, ◌∙◌, arith, rules}
 use lib.Seq.{paste-zero}
-use Rattle.board.specs.Board.{blankPlace}
-use Rattle.channels.specs.Channels.{seenBy}
-use Rattle.channels.proofs.Views.{seen-length, seen_at, made, made_more, made_all}
+use Rattle.board.specs.Board.{blank_place}
+use Rattle.channels.specs.Channels.{seen_by}
+use Rattle.channels.proofs.Views.{seen_length, seen_at, made, made_more, made_all}
 use Rattle.channels.proofs.seen.Statement.{statement}
 use Rattle.channels.proofs.seen.Tie as tie
 use Rattle.channels.proofs.seen.Reads as reads
 use Rattle.channels.proofs.seen.Lts as lts
-use Rattle.board.proofs.blank_place.Reads as blank-place-reads
-use Rattle.channels.proofs.seen_as.Reads as seen-as-reads
+use Rattle.board.proofs.blank_place.Reads as blank_place_reads
+use Rattle.channels.proofs.seen_as.Reads as seen_as_reads
 
 abbrev invariant-loop : tie.invariant-loop
-invariant-loop channel places whose out₀ i₀ out i = (i ≤ 32) × (length places ≡ 32) × (length whose ≡ 32) × (out ≡ made (seenBy channel places whose) i)
+invariant-loop channel places whose out₀ i₀ out i = (i ≤ 32) × (length places ≡ 32) × (length whose ≡ 32) × (out ≡ made (seen_by channel places whose) i)
 
 abbrev decreases-loop : tie.decreases-loop
 decreases-loop channel places whose out₀ i₀ out i = 32 - i
@@ -24,7 +24,7 @@ blank-place-requires c κs = search rules
 loop-holds : tie.Need-loop-init invariant-loop decreases-loop
 loop-holds c =
     let a = c.before.args in
-    (omega arith, search rules, search rules, rw c.blank-place.ensures (paste-zero (replicate 32 blankPlace) 0 (seenBy a.channel a.t1 a.t2)))
+    (omega arith, search rules, search rules, rw c.blank-place.ensures (paste-zero (replicate 32 blank_place) 0 (seen_by a.channel a.t1 a.t2)))
 
 -- src/lib.rt:61:26
 mul-seen-as : tie.Need-overflow-mul-seen-as invariant-loop decreases-loop
@@ -70,18 +70,18 @@ loop-again c =
       omega arith,
       v.1,
       v.2,
-      rw (c.seen_as.ensures ∙ sym (seen_at a.channel a.t1 a.t2 l.loop.i blankPlace p w))
-          (made_more _ _ _ h (seen-length _ _ _ (v.1 ∙ sym v.2) ∙ v.1) v.3),
+      rw (c.seen_as.ensures ∙ sym (seen_at a.channel a.t1 a.t2 l.loop.i blank_place p w))
+          (made_more _ _ _ h (seen_length _ _ _ (v.1 ∙ sym v.2) ∙ v.1) v.3),
     )
 
 -- src/lib.rt:54:1
 returns : tie.Need-returns invariant-loop decreases-loop
 returns c =
     let l = c.before.loop.invariant in
-    (made_all _ _ _ l.0 c.loop-test.false (seen-length _ _ _ (l.1 ∙ sym l.2) ∙ l.1) l.3, l.1, l.2)
+    (made_all _ _ _ l.0 c.loop-test.false (seen_length _ _ _ (l.1 ∙ sym l.2) ∙ l.1) l.3, l.1, l.2)
 
-pub seen-spec : {M : Type 1} → statement M
-seen-spec =
+pub seen_spec : {M : Type 1} → statement M
+seen_spec =
     tie.close
     (tie.spec
     invariant-loop

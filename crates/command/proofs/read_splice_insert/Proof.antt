@@ -1,6 +1,6 @@
 -- `command::read_splice_insert` meets its contract.
 use mathlib.Core.Path.{◌≡◌, sym, ◌∙◌}
-use Rattle.command.proofs.Payloads.{insertion, no-insertion}
+use Rattle.command.proofs.Payloads.{insertion, no_insertion}
 use borrow.Author.Rules.{rules}
 use Rattle.command.proofs.read_splice_insert.Statement.{statement}
 use Rattle.command.proofs.read_splice_insert.Tie as tie
@@ -21,9 +21,9 @@ returns c =
     let a = r.before.before.args in
     insertion _ _ (sym i.i.given.1 ∙ r.read-insert.ensures)
 
-returns-2 : tie.Need-returns-2
-returns-2 c = let r = c.before.before in no-insertion _ _ (sym c.enum_told.given.1 ∙ r.read-insert.ensures)
+returns_2 : tie.Need-returns-2
+returns_2 c = let r = c.before.before in no_insertion _ _ (sym c.enum_told.given.1 ∙ r.read-insert.ensures)
 
-pub read-splice-insert-spec : {M : Type 1} → statement M
-read-splice-insert-spec =
-    tie.close (tie.spec read-insert-requires enum-known-i returns enum_told returns-2)
+pub read_splice_insert_spec : {M : Type 1} → statement M
+read_splice_insert_spec =
+    tie.close (tie.spec read-insert-requires enum-known-i returns enum_told returns_2)

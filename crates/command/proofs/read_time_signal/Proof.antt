@@ -1,6 +1,6 @@
 -- `command::read_time_signal` meets its contract.
 use mathlib.Core.Path.{◌≡◌, sym, ◌∙◌}
-use Rattle.command.proofs.Payloads.{signal, no-signal}
+use Rattle.command.proofs.Payloads.{signal, no_signal}
 use borrow.Author.Rules.{rules}
 use Rattle.command.proofs.read_time_signal.Statement.{statement}
 use Rattle.command.proofs.read_time_signal.Tie as tie
@@ -21,9 +21,9 @@ returns c =
     let a = r.before.before.args in
     signal _ _ (sym t.t.given.1 ∙ r.read-aligned-time.ensures)
 
-returns-2 : tie.Need-returns-2
-returns-2 c = let r = c.before.before in no-signal _ _ (sym c.enum_told.given.1 ∙ r.read-aligned-time.ensures)
+returns_2 : tie.Need-returns-2
+returns_2 c = let r = c.before.before in no_signal _ _ (sym c.enum_told.given.1 ∙ r.read-aligned-time.ensures)
 
-pub read-time-signal-spec : {M : Type 1} → statement M
-read-time-signal-spec =
-    tie.close (tie.spec read-aligned-time-requires enum-known-t enum_told returns returns-2)
+pub read_time_signal_spec : {M : Type 1} → statement M
+read_time_signal_spec =
+    tie.close (tie.spec read-aligned-time-requires enum-known-t enum_told returns returns_2)

@@ -1,7 +1,7 @@
 -- `command_canonical::is_canonical_time`: a splice_time() that takes all of the payload.
 use mathlib.Core.Path.{◌∙◌}
-use Rattle.splice_time.specs.Time.{spliceTime}
-use Rattle.command_canonical.proofs.Walks.{exact-is}
+use Rattle.splice_time.specs.Time.{splice_time}
+use Rattle.command_canonical.proofs.Walks.{exact_is}
 use borrow.Author.Rules.{rules}
 use Rattle.command_canonical.proofs.is_canonical_time.Statement.{statement}
 use Rattle.command_canonical.proofs.is_canonical_time.Tie as tie
@@ -15,7 +15,7 @@ is-exact-requires c κs = search rules
 returns : tie.Need-returns
 returns c =
     let p = c.before in
-    c.is-exact.ensures ∙ exact-is spliceTime p.before.before.args.s.now p.pass-time.result p.pass-time.ensures
+    c.is-exact.ensures ∙ exact_is splice_time p.before.before.args.s.now p.pass-time.result p.pass-time.ensures
 
-pub is-canonical-time-spec : {M : Type 1} → statement M
-is-canonical-time-spec = tie.close (tie.spec pass-time-requires is-exact-requires returns)
+pub is_canonical_time_spec : {M : Type 1} → statement M
+is_canonical_time_spec = tie.close (tie.spec pass-time-requires is-exact-requires returns)

@@ -18,8 +18,8 @@ returns c =
     let e = c.before in
     sym (ap (λ (f : Form). exact f (length e.before.before.args.s.now)) e.form.given.1)
 
-returns-2 : tie.Need-returns-2
-returns-2 c = search rules
+returns_2 : tie.Need-returns-2
+returns_2 c = search rules
 
-pub is-exact-spec : {M : Type 1} → statement M
-is-exact-spec = tie.close (tie.spec enum-known-form enum_told returns returns-2)
+pub is_exact_spec : {M : Type 1} → statement M
+is_exact_spec = tie.close (tie.spec enum-known-form enum_told returns returns_2)

@@ -2,8 +2,8 @@
 use Prim.Native.Nat.{suc, ◌-◌}
 use native.Mathlib.Omega.{arith}
 use borrow.Author.Rules.{rules}
-use Rattle.command_canonical.proofs.Inserts.{no-tag, no-component, a-component, Ahead, all-ahead, one_more, stops, goes_on, none_ahead}
-use Rattle.command_canonical.proofs.Walks.{told-ends, told-other}
+use Rattle.command_canonical.proofs.Inserts.{no_tag, no_component, a_component, Ahead, all_ahead, one_more, stops, goes_on_lem, none_ahead}
+use Rattle.command_canonical.proofs.Walks.{told_ends, told_other}
 use Rattle.command_canonical.proofs.pass_components.Statement.{statement}
 use Rattle.command_canonical.proofs.pass_components.Tie as tie
 
@@ -14,14 +14,14 @@ abbrev decreases-loop : tie.decreases-loop
 decreases-loop s at count immediate next₀ ahead₀ next ahead = ahead
 
 loop-holds : tie.Need-loop-init invariant-loop decreases-loop
-loop-holds c = all-ahead _ _ _ _
+loop-holds c = all_ahead _ _ _ _
 
 returns : tie.Need-returns invariant-loop decreases-loop
 returns c =
     let l = c.before.before in
     let a = l.before.before.args in
     let h : Ahead a.s.now a.immediate a.count a.at (suc (l.loop.ahead - 1)) l.loop.next = one_more _ _ _ _ _ _ c.before.loop-test.true l.loop.invariant in
-    stops _ _ _ _ _ _ h (no-tag a.s.now l.loop.next a.immediate c.if1.true)
+    stops _ _ _ _ _ _ h (no_tag a.s.now l.loop.next a.immediate c.if1.true)
 
 add-pass-time-unless : tie.Need-overflow-add-pass-time-unless invariant-loop decreases-loop
 add-pass-time-unless c = search rules
@@ -35,13 +35,13 @@ enum-known-end c = omega arith
 enum_told : tie.Need-enum-told invariant-loop decreases-loop
 enum_told c = omega arith
 
-returns-2 : tie.Need-returns-2 invariant-loop decreases-loop
-returns-2 c =
+returns_2 : tie.Need-returns-2 invariant-loop decreases-loop
+returns_2 c =
     let p = c.before.before in
     let l = p.before.before.before in
     let a = l.before.before.args in
     let h : Ahead a.s.now a.immediate a.count a.at (suc (l.loop.ahead - 1)) l.loop.next = one_more _ _ _ _ _ _ p.before.before.loop-test.true l.loop.invariant in
-    stops _ _ _ _ _ _ h (no-component a.s.now l.loop.next a.immediate (told-other _ _ _ _ p.pass-time-unless.ensures c.enum_told.given.1))
+    stops _ _ _ _ _ _ h (no_component a.s.now l.loop.next a.immediate (told_other _ _ _ _ p.pass-time-unless.ensures c.enum_told.given.1))
 
 sub-ahead : tie.Need-overflow-sub-ahead invariant-loop decreases-loop
 sub-ahead c = omega arith
@@ -56,15 +56,15 @@ loop-again c =
     let l = p.before.before.before in
     let a = l.before.before.args in
     let h : Ahead a.s.now a.immediate a.count a.at (suc (l.loop.ahead - 1)) l.loop.next = one_more _ _ _ _ _ _ p.before.before.loop-test.true l.loop.invariant in
-    goes_on _ _ _ _ _ _ h _ (a-component a.s.now l.loop.next a.immediate _ p.before.if1.false (told-ends _ _ _ _ _ p.pass-time-unless.ensures e.end.given.1))
+    goes_on_lem _ _ _ _ _ _ h _ (a_component a.s.now l.loop.next a.immediate _ p.before.if1.false (told_ends _ _ _ _ _ p.pass-time-unless.ensures e.end.given.1))
 
-returns-3 : tie.Need-returns-3 invariant-loop decreases-loop
-returns-3 c =
+returns_3 : tie.Need-returns-3 invariant-loop decreases-loop
+returns_3 c =
     let l = c.before in
     none_ahead _ _ _ _ _ _ l.loop.invariant c.loop-test.false
 
-pub pass-components-spec : {M : Type 1} → statement M
-pass-components-spec =
+pub pass_components_spec : {M : Type 1} → statement M
+pass_components_spec =
     tie.close
     (tie.spec
     invariant-loop
@@ -75,8 +75,8 @@ pass-components-spec =
     pass-time-unless-requires
     enum-known-end
     enum_told
-    returns-2
+    returns_2
     sub-ahead
     loop-less
     loop-again
-    returns-3)
+    returns_3)

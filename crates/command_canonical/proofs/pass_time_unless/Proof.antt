@@ -1,5 +1,5 @@
 -- `command_canonical::pass_time_unless` meets its contract.
-use Rattle.command_canonical.proofs.Inserts.{at_once, at-a-time}
+use Rattle.command_canonical.proofs.Inserts.{at_once, at_a_time}
 use borrow.Author.Rules.{rules}
 use Rattle.command_canonical.proofs.pass_time_unless.Statement.{statement}
 use Rattle.command_canonical.proofs.pass_time_unless.Tie as tie
@@ -10,8 +10,8 @@ returns c = let a = c.before.before.args in at_once a.s.now a.at a.immediate c.i
 pass-time-requires : tie.Need-pass-time-requires
 pass-time-requires c κs = search rules
 
-returns-2 : tie.Need-returns-2
-returns-2 c = let a = c.before.before.before.args in at-a-time a.s.now a.at a.immediate c.pass-time.result c.before.if1.false c.pass-time.ensures
+returns_2 : tie.Need-returns-2
+returns_2 c = let a = c.before.before.before.args in at_a_time a.s.now a.at a.immediate c.pass-time.result c.before.if1.false c.pass-time.ensures
 
-pub pass-time-unless-spec : {M : Type 1} → statement M
-pass-time-unless-spec = tie.close (tie.spec returns pass-time-requires returns-2)
+pub pass_time_unless_spec : {M : Type 1} → statement M
+pass_time_unless_spec = tie.close (tie.spec returns pass-time-requires returns_2)

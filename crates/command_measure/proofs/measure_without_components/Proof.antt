@@ -3,7 +3,7 @@ use mathlib.Core.List.{[]}
 use mathlib.Core.Path.{◌≡◌, refl, ap, ap₂, sym, ◌∙◌}
 use native.Mathlib.Omega.{arith}
 use Rattle.command.specs.Command.{array}
-use Rattle.command_measure.proofs.Making.{countable, command-null, command-bandwidth, command-insert, command-time, command-private}
+use Rattle.command_measure.proofs.Making.{countable, command_null, command_bandwidth, command_insert, command_time, command_private}
 use borrow.Author.Rules.{rules}
 use Rattle.command_measure.proofs.measure_without_components.Statement.{statement}
 use Rattle.command_measure.proofs.measure_without_components.Tie as tie
@@ -33,22 +33,22 @@ measure-private-requires : tie.Need-measure-private-requires
 measure-private-requires c κs = search rules
 
 returns : tie.Need-returns
-returns c = let a = c.before.before.before.args in (command-null a.command (array []) a.lent.now c.enum_told.given.1, countable a.command _ c.enum_told.given.1 (omega arith))
+returns c = let a = c.before.before.before.args in (command_null a.command (array []) a.lent.now c.enum_told.given.1, countable a.command _ c.enum_told.given.1 (omega arith))
 
-returns-2 : tie.Need-returns-2
-returns-2 c = let a = c.before.before.before.before.before.args in (c.measure-insert-without-components.ensures.0 ∙ command-insert a.command (array []) a.lent.now _ c.before.before.command.given.1, countable a.command _ c.before.before.command.given.1 c.measure-insert-without-components.ensures.1)
+returns_2 : tie.Need-returns-2
+returns_2 c = let a = c.before.before.before.before.before.args in (c.measure-insert-without-components.ensures.0 ∙ command_insert a.command (array []) a.lent.now _ c.before.before.command.given.1, countable a.command _ c.before.before.command.given.1 c.measure-insert-without-components.ensures.1)
 
-returns-3 : tie.Need-returns-3
-returns-3 c = let a = c.before.before.before.before.before.args in (c.measure-time.ensures ∙ command-time a.command (array []) a.lent.now _ c.before.before.command2.given.1, countable a.command _ c.before.before.command2.given.1 (omega arith))
+returns_3 : tie.Need-returns-3
+returns_3 c = let a = c.before.before.before.before.before.args in (c.measure-time.ensures ∙ command_time a.command (array []) a.lent.now _ c.before.before.command2.given.1, countable a.command _ c.before.before.command2.given.1 (omega arith))
 
-returns-4 : tie.Need-returns-4
-returns-4 c = let a = c.before.before.before.args in (command-bandwidth a.command (array []) a.lent.now c.enum-told2.given.1, countable a.command _ c.enum-told2.given.1 (omega arith))
+returns_4 : tie.Need-returns-4
+returns_4 c = let a = c.before.before.before.args in (command_bandwidth a.command (array []) a.lent.now c.enum-told2.given.1, countable a.command _ c.enum-told2.given.1 (omega arith))
 
-returns-5 : tie.Need-returns-5
-returns-5 c = let a = c.before.before.before.before.before.args in (c.measure-private.ensures ∙ command-private a.command (array []) a.lent.now _ c.before.before.command3.given.1, countable a.command _ c.before.before.command3.given.1 (omega arith))
+returns_5 : tie.Need-returns-5
+returns_5 c = let a = c.before.before.before.before.before.args in (c.measure-private.ensures ∙ command_private a.command (array []) a.lent.now _ c.before.before.command3.given.1, countable a.command _ c.before.before.command3.given.1 (omega arith))
 
-pub measure-without-components-spec : {M : Type 1} → statement M
-measure-without-components-spec =
+pub measure_without_components_spec : {M : Type 1} → statement M
+measure_without_components_spec =
     tie.close
     (tie.spec
     enum_told
@@ -60,7 +60,7 @@ measure-without-components-spec =
     enum-known-command-3
     measure-private-requires
     returns
-    returns-2
-    returns-3
-    returns-4
-    returns-5)
+    returns_2
+    returns_3
+    returns_4
+    returns_5)

@@ -7,11 +7,11 @@ use Rattle.command_writer.proofs.answer_measured.Tie as tie
 returns : tie.Need-returns
 returns c = rw (ne_eqb c.before.args.measured.refusal 0 (λ e. omega (arith, e, c.if1.true)))
 
-returns-2 : tie.Need-returns-2
-returns-2 c = let a = c.before.before.args in rw (eq-eqb a.decreases.refusal 0 (omega arith), lt-leb a.decreases.size a.room (omega arith))
+returns_2 : tie.Need-returns-2
+returns_2 c = let a = c.before.before.args in rw (eq-eqb a.decreases.refusal 0 (omega arith), lt-leb a.decreases.size a.room (omega arith))
 
-returns-3 : tie.Need-returns-3
-returns-3 c = let a = c.before.before.args in rw (eq-eqb a.decreases.refusal 0 (omega arith), le-leb a.decreases.size a.room (omega arith))
+returns_3 : tie.Need-returns-3
+returns_3 c = let a = c.before.before.args in rw (eq-eqb a.decreases.refusal 0 (omega arith), le-leb a.decreases.size a.room (omega arith))
 
-pub answer-measured-spec : {M : Type 1} → statement M
-answer-measured-spec = tie.close (tie.spec returns returns-2 returns-3)
+pub answer_measured_spec : {M : Type 1} → statement M
+answer_measured_spec = tie.close (tie.spec returns returns_2 returns_3)

@@ -2,10 +2,10 @@
 use mathlib.Core.List.{[]}
 use mathlib.Core.Path.{ap, ◌∙◌}
 use Rattle.command.specs.Command.{array}
-use Rattle.bit_stores.specs.Written.{bytesIn}
+use Rattle.bit_stores.specs.Written.{bytes_in}
 use Rattle.table.specs.Lent.{stored}
 use Rattle.table.specs.Writing.{Made}
-use Rattle.command_measure.proofs.Making.{insert-is, made-without-components}
+use Rattle.command_measure.proofs.Making.{insert_is, made_without_components}
 use borrow.Author.Rules.{rules}
 use Rattle.command_writer.proofs.put_command.Statement.{statement}
 use Rattle.command_writer.proofs.put_command.Tie as tie
@@ -27,20 +27,20 @@ returns c =
     let q = c.before.before in
     let m = q.before.before.before in
     let a = m.before.before.before.before.args in
-    q.put-insert.ensures ∙ ap (λ (x : Made). stored a.out.now a.at (bytesIn x)) (insert-is a.command a.components a.lent.now _ m.command.given.1)
+    q.put-insert.ensures ∙ ap (λ (x : Made). stored a.out.now a.at (bytes_in x)) (insert_is a.command a.components a.lent.now _ m.command.given.1)
 
 same-length-2 : tie.Need-same-length-2
 same-length-2 c = search rules
 
-returns-2 : tie.Need-returns-2
-returns-2 c =
+returns_2 : tie.Need-returns-2
+returns_2 c =
     let q = c.before.before in
     let k = q.before.before in
     let a = k.before.before.before.args in
-    q.put-without-components.ensures ∙ ap (λ (x : Made). stored a.out.now a.at (bytesIn x)) (made-without-components a.command (array []) a.components a.lent.now k.match.keys2)
+    q.put-without-components.ensures ∙ ap (λ (x : Made). stored a.out.now a.at (bytes_in x)) (made_without_components a.command (array []) a.components a.lent.now k.match.keys2)
 
-pub put-command-spec : {M : Type 1} → statement M
-put-command-spec =
+pub put_command_spec : {M : Type 1} → statement M
+put_command_spec =
     tie.close
     (tie.spec
     enum-known-command
@@ -49,4 +49,4 @@ put-command-spec =
     same_length
     returns
     same-length-2
-    returns-2)
+    returns_2)

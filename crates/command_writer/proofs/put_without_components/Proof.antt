@@ -4,10 +4,10 @@ use mathlib.Core.Path.{◌≡◌, sym, ◌∙◌}
 use Prim.Native.Nat.{ℕ, ◌+◌, ◌≤◌}
 use lib.ListN.{length}
 use Rattle.command.specs.Command.{array}
-use Rattle.bit_stores.specs.Written.{refusalIn, bytesIn}
-use Rattle.table.proofs.Bits.{bytes-all}
-use Rattle.command_measure.specs.Made.{commandMade}
-use Rattle.command_writer.proofs.Payloads.{room-there, room-none}
+use Rattle.bit_stores.specs.Written.{refusal_in, bytes_in}
+use Rattle.table.proofs.Bits.{bytes_all}
+use Rattle.command_measure.specs.Made.{command_made}
+use Rattle.command_writer.proofs.Payloads.{room_there, room_none}
 use borrow.Author.Rules.{rules}
 use Rattle.command_writer.proofs.put_without_components.Statement.{statement}
 use Rattle.command_writer.proofs.put_without_components.Tie as tie
@@ -23,8 +23,8 @@ store-without-components-requires c κs =
     let h = c.before.before in
     let k = h.before in
     let a = k.before.before.before.args in
-    let p = room-there (commandMade a.command (array []) a.lent.now) k.measure-without-components.result k.measure-without-components.ensures.0 a.at (length a.out.now) (sym h.has_room.ensures ∙ c.before.if1.true) in
-    (bytes-all a.out.now (λ j. (k.before.before.slice-known.given j).fits), p.0, p.1, k.measure-without-components.ensures.1)
+    let p = room_there (command_made a.command (array []) a.lent.now) k.measure-without-components.result k.measure-without-components.ensures.0 a.at (length a.out.now) (sym h.has_room.ensures ∙ c.before.if1.true) in
+    (bytes_all a.out.now (λ j. (k.before.before.slice-known.given j).fits), p.0, p.1, k.measure-without-components.ensures.1)
 
 same_length : tie.Need-same-length
 same_length c = search rules
@@ -32,15 +32,15 @@ same_length c = search rules
 returns : tie.Need-returns
 returns c = c.before.before.store-without-components.ensures
 
-returns-2 : tie.Need-returns-2
-returns-2 c =
+returns_2 : tie.Need-returns-2
+returns_2 c =
     let h = c.before in
     let k = h.before in
     let a = k.before.before.before.args in
-    room-none (commandMade a.command (array []) a.lent.now) k.measure-without-components.result k.measure-without-components.ensures.0 a.out.now a.at (sym h.has_room.ensures ∙ c.if1.false)
+    room_none (command_made a.command (array []) a.lent.now) k.measure-without-components.result k.measure-without-components.ensures.0 a.out.now a.at (sym h.has_room.ensures ∙ c.if1.false)
 
-pub put-without-components-spec : {M : Type 1} → statement M
-put-without-components-spec =
+pub put_without_components_spec : {M : Type 1} → statement M
+put_without_components_spec =
     tie.close
     (tie.spec
     measure-without-components-requires
@@ -48,4 +48,4 @@ put-without-components-spec =
     store-without-components-requires
     same_length
     returns
-    returns-2)
+    returns_2)

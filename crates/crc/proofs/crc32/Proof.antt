@@ -10,48 +10,48 @@ use lib.Bits.{bit_xor}
 use lib.Dec.{lit<}
 use lib.ListN.{length, get_or, drop}
 use Rattle.crc_table.specs.Turns.{turns, reversed}
-use Rattle.crc.specs.Crc.{allOnes, crcOf}
-use Rattle.crc.specs.Private.{crcBytes, number_at}
-use Rattle.crc.proofs.Bytes.{past-none, past_all, number_fits, number-first, pass}
-use Rattle.crc.proofs.Turns.{turns-lin, turns-add, turned_lt, reversed-lin, reversed-twice}
+use Rattle.crc.specs.Crc.{all_ones, crc_of}
+use Rattle.crc.specs.Private.{crc_bytes, number_at}
+use Rattle.crc.proofs.Bytes.{past_none, past_all, number_fits, number_first, pass}
+use Rattle.crc.proofs.Turns.{turns_lin, turns_add, turned_lt, reversed_lin, reversed_twice}
 use Rattle.crc.proofs.crc32.Statement.{statement}
 use Rattle.crc.proofs.crc32.Tie as tie
 
 -- x comes into a register, both in the other order
-comes-in : (y w x : ℕ) → w ≡ reversed x → x < 2 ^ 32 → turns 32 (reversed (bit_xor y w)) ≡ bit_xor (turns 32 (reversed y)) (turns 32 x)
-comes-in y w x e h =
-    ap (turns 32) (reversed-lin.at y w ∙ ap (bit_xor (reversed y)) (ap reversed e ∙ reversed-twice x h)) ∙ (turns-lin 32).at (reversed y) x
+comes_in : (y w x : ℕ) → w ≡ reversed x → x < 2 ^ 32 → turns 32 (reversed (bit_xor y w)) ≡ bit_xor (turns 32 (reversed y)) (turns 32 x)
+comes_in y w x e h =
+    ap (turns 32) (reversed_lin.at y w ∙ ap (bit_xor (reversed y)) (ap reversed e ∙ reversed_twice x h)) ∙ (turns_lin 32).at (reversed y) x
 
 module _ (s : List ℕ) (bytes : (k : ℕ) → get_or s k 0 < 256) where
   -- zeros in front, which take a start to all ones, and the bytes up to the first whole word
-  first-in : (zeros y w : ℕ) → zeros < 4 → 4 ≤ length s → turns (8 * zeros) (reversed y) ≡ allOnes → w ≡ reversed (number_at s 0 4 / 2 ^ (8 * zeros))
-      → crcBytes (turns 32 (reversed (bit_xor y w))) (drop (4 - zeros) s) ≡ crcOf s
-  first-in zeros y w h l a e =
+  first_in : (zeros y w : ℕ) → zeros < 4 → 4 ≤ length s → turns (8 * zeros) (reversed y) ≡ all_ones → w ≡ reversed (number_at s 0 4 / 2 ^ (8 * zeros))
+      → crc_bytes (turns 32 (reversed (bit_xor y w))) (drop (4 - zeros) s) ≡ crc_of s
+  first_in zeros y w h l a e =
       let n : ℕ = 4 - zeros in
       let x : ℕ = number_at s 0 n in
       let m : 4 ≡ n + zeros = omega arith in
       let k : 32 ≡ 8 * zeros + 8 * n = omega arith in
-      let f : w ≡ reversed x = e ∙ ap reversed (ap (λ (i : ℕ). number_at s 0 i / 2 ^ (8 * zeros)) m ∙ number-first s bytes 0 n zeros) in
-      let t : turns 32 (reversed y) ≡ turns (8 * n) allOnes =
-      ap (λ (i : ℕ). turns i (reversed y)) k ∙ turns-add (8 * zeros) (8 * n) (reversed y) ∙ ap (turns (8 * n)) a
+      let f : w ≡ reversed x = e ∙ ap reversed (ap (λ (i : ℕ). number_at s 0 i / 2 ^ (8 * zeros)) m ∙ number_first s bytes 0 n zeros) in
+      let t : turns 32 (reversed y) ≡ turns (8 * n) all_ones =
+      ap (λ (i : ℕ). turns i (reversed y)) k ∙ turns_add (8 * zeros) (8 * n) (reversed y) ∙ ap (turns (8 * n)) a
       in
-      ap (λ (z : ℕ). crcBytes z (drop n s)) (comes-in y w x f (number_fits s bytes 0 n 4 (omega arith)) ∙ ap (λ (z : ℕ). bit_xor z (turns 32 x)) t)
-      ∙ ap (λ (i : ℕ). crcBytes (bit_xor (turns (8 * n) allOnes) (turns 32 x)) (drop i s)) (sym (zero-add n))
-      ∙ sym (pass s bytes 0 n allOnes (omega arith) (omega arith) (lit< tt))
-      ∙ past-none s
+      ap (λ (z : ℕ). crc_bytes z (drop n s)) (comes_in y w x f (number_fits s bytes 0 n 4 (omega arith)) ∙ ap (λ (z : ℕ). bit_xor z (turns 32 x)) t)
+      ∙ ap (λ (i : ℕ). crc_bytes (bit_xor (turns (8 * n) all_ones) (turns 32 x)) (drop i s)) (sym (zero-add n))
+      ∙ sym (pass s bytes 0 n all_ones (omega arith) (omega arith) (lit< tt))
+      ∙ past_none s
 
   -- a word comes into the register z
-  next-in : (i z y w : ℕ) → i + 4 ≤ length s → z < 2 ^ 32 → y ≡ reversed z → w ≡ reversed (number_at s i 4)
-      → crcBytes (turns 32 (reversed (bit_xor y w))) (drop (i + 4) s) ≡ crcBytes z (drop i s)
-  next-in i z y w l h e f =
+  next_in : (i z y w : ℕ) → i + 4 ≤ length s → z < 2 ^ 32 → y ≡ reversed z → w ≡ reversed (number_at s i 4)
+      → crc_bytes (turns 32 (reversed (bit_xor y w))) (drop (i + 4) s) ≡ crc_bytes z (drop i s)
+  next_in i z y w l h e f =
       let x : ℕ = number_at s i 4 in
-      ap (λ (k : ℕ). crcBytes k (drop (i + 4) s))
-      (comes-in y w x f (number_fits s bytes i 4 4 (omega arith))
-      ∙ ap (λ (k : ℕ). bit_xor (turns 32 k) (turns 32 x)) (ap reversed e ∙ reversed-twice z h))
+      ap (λ (k : ℕ). crc_bytes k (drop (i + 4) s))
+      (comes_in y w x f (number_fits s bytes i 4 4 (omega arith))
+      ∙ ap (λ (k : ℕ). bit_xor (turns 32 k) (turns 32 x)) (ap reversed e ∙ reversed_twice z h))
       ∙ sym (pass s bytes i 4 z (omega arith) l h)
 
 abbrev invariant-loop : tie.invariant-loop
-invariant-loop s zeros y₀ i₀ y i = (i ≤ length s) × ((length s - i) % 4 ≡ 0) × (crcBytes (turns 32 (reversed y)) (drop i s) ≡ crcOf s)
+invariant-loop s zeros y₀ i₀ y i = (i ≤ length s) × ((length s - i) % 4 ≡ 0) × (crc_bytes (turns 32 (reversed y)) (drop i s) ≡ crc_of s)
 
 abbrev decreases-loop : tie.decreases-loop
 decreases-loop s zeros y₀ i₀ y i = length s - i
@@ -98,7 +98,7 @@ loop-holds c =
     in (
       omega arith,
       omega arith,
-      first-in s (λ k. (b.shared-slice-known.given k).fits) zeros start.start.result c.reverse.result (omega arith) (omega arith) start.start.ensures e,
+      first_in s (λ k. (b.shared-slice-known.given k).fits) zeros start.start.result c.reverse.result (omega arith) (omega arith) start.start.ensures e,
     )
 
 take-word-requires : tie.Need-take-word-requires invariant-loop decreases-loop
@@ -107,13 +107,13 @@ take-word-requires c κs = search rules
 reverse-requires-2 : tie.Need-reverse-requires-2 invariant-loop decreases-loop
 reverse-requires-2 c κs = search rules
 
-returns-2 : tie.Need-returns-2 invariant-loop decreases-loop
-returns-2 c =
+returns_2 : tie.Need-returns-2 invariant-loop decreases-loop
+returns_2 c =
     let taken = c.before.before in
     let l = taken.before.loop in
     let s : List ℕ = taken.before.before.before.before.before.before.before.args.s.now in
     let z : ℕ = turns 32 (reversed l.y) in
-    c.reverse2.ensures ∙ ap reversed taken.take-word.ensures ∙ reversed-twice z (turned_lt 31 (reversed l.y))
+    c.reverse2.ensures ∙ ap reversed taken.take-word.ensures ∙ reversed_twice z (turned_lt 31 (reversed l.y))
     ∙ sym (past_all s z l.i (omega arith))
     ∙ l.invariant.2
 
@@ -139,15 +139,15 @@ loop-again c =
     let z : ℕ = turns 32 (reversed l.y) in (
       omega arith,
       omega arith,
-      next-in s (λ k. (b.shared-slice-known.given k).fits) l.i z taken.take-word.result c.reverse3.result (omega arith)
+      next_in s (λ k. (b.shared-slice-known.given k).fits) l.i z taken.take-word.result c.reverse3.result (omega arith)
           (turned_lt 31 (reversed l.y))
           taken.take-word.ensures
           (c.reverse3.ensures ∙ ap reversed word.word2.ensures)
           ∙ l.invariant.2,
     )
 
-pub crc32-spec : {M : Type 1} → statement M
-crc32-spec =
+pub crc32_spec : {M : Type 1} → statement M
+crc32_spec =
     tie.close
     (tie.spec
     invariant-loop
@@ -165,7 +165,7 @@ crc32-spec =
     loop-holds
     take-word-requires
     reverse-requires-2
-    returns-2
+    returns_2
     word-requires-2
     reverse-requires-3
     add-i

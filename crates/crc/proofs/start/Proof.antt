@@ -16,19 +16,19 @@ returns : tie.Need-returns
 unfolding turns turn reversed
 returns c = rw c.match.keys1 refl
 
-returns-2 : tie.Need-returns-2
+returns_2 : tie.Need-returns-2
 unfolding turns turn reversed
-returns-2 c = rw c.match.keys2 refl
+returns_2 c = rw c.match.keys2 refl
 
-returns-3 : tie.Need-returns-3
+returns_3 : tie.Need-returns-3
 unfolding turns turn reversed
-returns-3 c = rw c.match.keys3 refl
+returns_3 c = rw c.match.keys3 refl
 
-returns-4 : tie.Need-returns-4
+returns_4 : tie.Need-returns-4
 unfolding turns turn reversed
-returns-4 c =
+returns_4 c =
     let not = c.match.rest in
     rw (three c.before.args.zeros (omega arith) not.0.0.1 not.0.1 not.1) refl
 
 pub start_spec : {M : Type 1} → statement M
-start_spec = tie.close (tie.spec returns returns-2 returns-3 returns-4)
+start_spec = tie.close (tie.spec returns returns_2 returns_3 returns_4)

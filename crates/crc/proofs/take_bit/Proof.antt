@@ -2,24 +2,24 @@
 use mathlib.Core.Path.{◌≡◌, refl, sym, ap}
 use Prim.Native.Nat.{ℕ, zero, suc}
 use lib.Bits.{bit_xor}
-use Rattle.crc.specs.Crc.{polynomial, fed, crcBit}
+use Rattle.crc.specs.Crc.{polynomial, fed, crc_bit}
 use Rattle.crc.proofs.take_bit.Statement.{statement}
 use Rattle.crc.proofs.take_bit.Tie as tie
 
-fed-none : (f z : ℕ) → f ≡ 0 → fed f z ≡ z
-fed-none f z e = ap (λ (n : ℕ). fed n z) e
+fed_none : (f z : ℕ) → f ≡ 0 → fed f z ≡ z
+fed_none f z e = ap (λ (n : ℕ). fed n z) e
 
-fed-some : (f z : ℕ) → (f ≡ 0 → ⊥) → fed f z ≡ bit_xor z polynomial
-fed-some zero z h = absurd (h refl)
-fed-some (suc f) z h = refl
+fed_some : (f z : ℕ) → (f ≡ 0 → ⊥) → fed f z ≡ bit_xor z polynomial
+fed_some zero z h = absurd (h refl)
+fed_some (suc f) z h = refl
 
 returns : tie.Need-returns
-unfolding crcBit
-returns c = sym (fed-none _ _ c.if1.true)
+unfolding crc_bit
+returns c = sym (fed_none _ _ c.if1.true)
 
-returns-2 : tie.Need-returns-2
-unfolding crcBit
-returns-2 c = sym (fed-some _ _ c.if1.false)
+returns_2 : tie.Need-returns-2
+unfolding crc_bit
+returns_2 c = sym (fed_some _ _ c.if1.false)
 
-pub take-bit-spec : {M : Type 1} → statement M
-take-bit-spec = tie.close (tie.spec returns returns-2)
+pub take_bit_spec : {M : Type 1} → statement M
+take_bit_spec = tie.close (tie.spec returns returns_2)

@@ -7,25 +7,25 @@ use native.Mathlib.Omega.{arith}
 use borrow.Author.Rules.{rules}
 use lib.Bits.{bit_xor}
 use Rattle.crc_table.specs.Turns.{turns, reversed}
-use Rattle.crc.proofs.Linear.{Linear, after-lin}
-use Rattle.crc.proofs.Turns.{turns-lin, turns-low, turns-add, reversed-lin}
+use Rattle.crc.proofs.Linear.{Linear, after_lin}
+use Rattle.crc.proofs.Turns.{turns_lin, turns_low, turns_add, reversed_lin}
 use Rattle.crc.proofs.take_word.Statement.{statement}
 use Rattle.crc.proofs.take_word.Tie as tie
 
 abbrev taken : ℕ → ℕ
 taken x = reversed (turns 32 x)
 
-taken-lin : Linear taken
-taken-lin = after-lin (turns-lin 32) reversed-lin
+taken_lin : Linear taken
+taken_lin = after_lin (turns_lin 32) reversed_lin
 
 -- a byte with n zeros behind it, from its row
 row : (n x r : ℕ) → x < 256 → x * 2 ^ n < 2 ^ 32 → r ≡ reversed (turns (n + 32) ((256 + x) % 256)) → r ≡ taken (x * 2 ^ n)
 row n x r b l e =
     let m : (256 + x) % 256 ≡ x = omega arith in
-    e ∙ ap (λ (k : ℕ). reversed (turns (n + 32) k)) m ∙ ap reversed (turns-add n 32 x ∙ ap (turns 32) (turns-low n x l))
+    e ∙ ap (λ (k : ℕ). reversed (turns (n + 32) k)) m ∙ ap reversed (turns_add n 32 x ∙ ap (turns 32) (turns_low n x l))
 
 four : (p q r s : ℕ) → bit_xor (bit_xor (taken p) (taken q)) (bit_xor (taken r) (taken s)) ≡ taken (bit_xor (bit_xor p q) (bit_xor r s))
-four p q r s = sym (taken-lin.at (bit_xor p q) (bit_xor r s) ∙ ap₂ bit_xor (taken-lin.at p q) (taken-lin.at r s))
+four p q r s = sym (taken_lin.at (bit_xor p q) (bit_xor r s) ∙ ap₂ bit_xor (taken_lin.at p q) (taken_lin.at r s))
 
 by_bytes : (y : ℕ) → bit_xor (bit_xor (y % 256 * 2 ^ 24) (y / 2 ^ 8 % 256 * 2 ^ 16)) (bit_xor (y / 2 ^ 16 % 256 * 2 ^ 8) (y / 2 ^ 24 % 256 * 2 ^ 0)) ≡ reversed y
 unfolding reversed
@@ -70,8 +70,8 @@ returns c =
     ∙ four (y % 256 * 2 ^ 24) (y / 2 ^ 8 % 256 * 2 ^ 16) (y / 2 ^ 16 % 256 * 2 ^ 8) (y / 2 ^ 24 % 256 * 2 ^ 0)
     ∙ ap taken (by_bytes y)
 
-pub take-word-spec : {M : Type 1} → statement M
-take-word-spec =
+pub take_word_spec : {M : Type 1} → statement M
+take_word_spec =
     tie.close
     (tie.spec
     add-turned-56

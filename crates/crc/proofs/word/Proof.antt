@@ -4,7 +4,7 @@ use Prim.Native.Nat.{ℕ, ◌+◌, ◌*◌, ◌-◌, ◌^◌, ◌<◌, ◌≤◌
 use native.Mathlib.Omega.{arith}
 use lib.ListN.{get_or}
 use Rattle.crc.specs.Private.{number_at}
-use Rattle.crc.proofs.Bytes.{number_fits, number-next}
+use Rattle.crc.proofs.Bytes.{number_fits, number_next}
 use Rattle.crc.proofs.word.Statement.{statement}
 use Rattle.crc.proofs.word.Tie as tie
 use Rattle.crc.proofs.word.Reads as reads
@@ -52,7 +52,7 @@ loop-again : tie.Need-loop-preserved invariant-loop decreases-loop
 loop-again c =
     let l = c.before.before.loop in
     let a = c.before.before.before.args in
-    (omega arith, ap (λ (n : ℕ). n * 256 + get_or a.s.now (a.at + l.i) 0) l.invariant.1 ∙ sym (number-next a.s.now a.at l.i))
+    (omega arith, ap (λ (n : ℕ). n * 256 + get_or a.s.now (a.at + l.i) 0) l.invariant.1 ∙ sym (number_next a.s.now a.at l.i))
 
 returns : tie.Need-returns invariant-loop decreases-loop
 returns c =
@@ -60,8 +60,8 @@ returns c =
     let e : b.loop.i ≡ 4 = omega arith in
     b.loop.invariant.1 ∙ ap (number_at b.before.args.s.now b.before.args.at) e
 
-pub word-spec : {M : Type 1} → statement M
-word-spec =
+pub word_spec : {M : Type 1} → statement M
+word_spec =
     tie.close
     (tie.spec
     invariant-loop

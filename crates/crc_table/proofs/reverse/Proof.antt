@@ -18,5 +18,5 @@ returns : tie.Need-returns
 unfolding reversed
 returns c = refl
 
-pub reverse-spec : {M : Type 1} → statement M
-reverse-spec = tie.close (tie.spec mul-high mul-high-2 mul_low returns)
+pub reverse_spec : {M : Type 1} → statement M
+reverse_spec = tie.close (tie.spec mul-high mul-high-2 mul_low returns)

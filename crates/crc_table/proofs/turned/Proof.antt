@@ -27,8 +27,8 @@ loop-holds c = refl
 mul-r : tie.Need-overflow-mul-r invariant-loop decreases-loop
 mul-r c = omega arith
 
-sub-left : tie.Need-overflow-sub-left invariant-loop decreases-loop
-sub-left c = omega arith
+sub_left : tie.Need-overflow-sub-left invariant-loop decreases-loop
+sub_left c = omega arith
 
 loop-less : tie.Need-loop-smaller invariant-loop decreases-loop
 loop-less c = omega arith
@@ -46,15 +46,15 @@ returns c =
     let b = c.before.before in
     c.reverse.ensures ∙ ap reversed (sym (ap (λ (n : ℕ). turns n b.loop.r) (le-zero c.before.loop-test.false)) ∙ b.loop.invariant)
 
-pub turned-spec : {M : Type 1} → statement M
-turned-spec =
+pub turned_spec : {M : Type 1} → statement M
+turned_spec =
     tie.close
     (tie.spec
     invariant-loop
     decreases-loop
     loop-holds
     mul-r
-    sub-left
+    sub_left
     loop-less
     loop-again
     reverse-requires

@@ -1,6 +1,6 @@
 -- `daterange::cue_for`, command by command.
 use borrow.Author.Rules.{rules}
-use Rattle.daterange.specs.Choice.{cueFor}
+use Rattle.daterange.specs.Choice.{cue_for}
 use Rattle.daterange.proofs.cue_for.Statement.{statement}
 use Rattle.daterange.proofs.cue_for.Tie as tie
 
@@ -23,27 +23,27 @@ enum-told-4 : tie.Need-enum-told-4
 enum-told-4 c = search rules
 
 returns : tie.Need-returns
-unfolding cueFor
+unfolding cue_for
 returns c = rw c.before.before.c.given.1 c.inserted.ensures
 
-returns-2 : tie.Need-returns-2
-unfolding cueFor
-returns-2 c = rw c.enum_told.given.1
+returns_2 : tie.Need-returns-2
+unfolding cue_for
+returns_2 c = rw c.enum_told.given.1
 
-returns-3 : tie.Need-returns-3
-unfolding cueFor
-returns-3 c = rw c.enum-told2.given.1
+returns_3 : tie.Need-returns-3
+unfolding cue_for
+returns_3 c = rw c.enum-told2.given.1
 
-returns-4 : tie.Need-returns-4
-unfolding cueFor
-returns-4 c = rw c.enum-told3.given.1
+returns_4 : tie.Need-returns-4
+unfolding cue_for
+returns_4 c = rw c.enum-told3.given.1
 
-returns-5 : tie.Need-returns-5
-unfolding cueFor
-returns-5 c = rw c.enum-told4.given.1
+returns_5 : tie.Need-returns-5
+unfolding cue_for
+returns_5 c = rw c.enum-told4.given.1
 
-pub cue-for-spec : {M : Type 1} → statement M
-cue-for-spec =
+pub cue_for_spec : {M : Type 1} → statement M
+cue_for_spec =
     tie.close
     (tie.spec
     enum-known-c
@@ -53,7 +53,7 @@ cue-for-spec =
     enum-told-3
     enum-told-4
     returns
-    returns-2
-    returns-3
-    returns-4
-    returns-5)
+    returns_2
+    returns_3
+    returns_4
+    returns_5)

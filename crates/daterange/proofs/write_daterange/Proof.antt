@@ -1,6 +1,6 @@
 -- `daterange::write_daterange`: the section's line, or its refusal.
 use borrow.Author.Rules.{rules}
-use Rattle.daterange.proofs.Made.{refused-line, written-line}
+use Rattle.daterange.proofs.Made.{refused_line, written_line}
 use Rattle.daterange.proofs.write_daterange.Statement.{statement}
 use Rattle.daterange.proofs.write_daterange.Tie as tie
 
@@ -25,7 +25,7 @@ returns c =
     let u = w.before.before in
     let r = u.before.before.before.before in
     let a = r.before.before.before.before.before.args in
-    written-line a.section.now a.id.now a.date.now a.target.now _ r.read-section.ensures _ _ _ _ u.before.before.s.given.1 u.cue-for.ensures w.write-line.ensures.0 w.write-line.ensures.1
+    written_line a.section.now a.id.now a.date.now a.target.now _ r.read-section.ensures _ _ _ _ u.before.before.s.given.1 u.cue-for.ensures w.write-line.ensures.0 w.write-line.ensures.1
 
 enum-known-r : tie.Need-enum-known-r
 enum-known-r c = search rules
@@ -33,14 +33,14 @@ enum-known-r c = search rules
 number-requires : tie.Need-number-requires
 number-requires c κs = tt
 
-returns-2 : tie.Need-returns-2
-returns-2 c =
+returns_2 : tie.Need-returns-2
+returns_2 c =
     let r = c.before.before.before.before in
     let a = r.before.before.before.before.before.args in
-    refused-line a.section.now a.id.now a.date.now a.target.now _ r.read-section.ensures _ _ c.before.before.r.given.1 c.number.ensures
+    refused_line a.section.now a.id.now a.date.now a.target.now _ r.read-section.ensures _ _ c.before.before.r.given.1 c.number.ensures
 
-pub write-daterange-spec : {M : Type 1} → statement M
-write-daterange-spec =
+pub write_daterange_spec : {M : Type 1} → statement M
+write_daterange_spec =
     tie.close
     (tie.spec
     read-section-requires
@@ -51,4 +51,4 @@ write-daterange-spec =
     returns
     enum-known-r
     number-requires
-    returns-2)
+    returns_2)

@@ -1,8 +1,8 @@
 -- `daterange_writer::write_line`: 53, or the line by its cue.
 use mathlib.Core.Path.{refl}
-use Rattle.bit_stores.proofs.Writes.{refused-answer}
+use Rattle.bit_stores.proofs.Writes.{refused_answer}
 use Rattle.daterange_line.specs.declared.Cue.TheVariants.{Cmd, Out, In}
-use Rattle.daterange_writer.proofs.Stored.{quoted-all, quoted-not, made-line, made-not-id, made-not-date}
+use Rattle.daterange_writer.proofs.Stored.{quoted_all, quoted_not, made_line, made_not_id, made_not_date}
 use borrow.Author.Rules.{rules}
 use Rattle.daterange_writer.proofs.write_line.Statement.{statement}
 use Rattle.daterange_writer.proofs.write_line.Tie as tie
@@ -11,13 +11,13 @@ past-requires : tie.Need-past-requires
 past-requires c κs = tt
 
 returns : tie.Need-returns
-returns c = refused-answer _ _ 53 (made-not-id _ _ _ _ (quoted-not _ _ c.before.past.ensures c.if1.true))
+returns c = refused_answer _ _ 53 (made_not_id _ _ _ _ (quoted_not _ _ c.before.past.ensures c.if1.true))
 
 past-requires-2 : tie.Need-past-requires-2
 past-requires-2 c κs = tt
 
-returns-2 : tie.Need-returns-2
-returns-2 c = refused-answer _ _ 53 (made-not-date _ _ _ _ (quoted-all _ _ c.before.before.before.past.ensures c.before.before.if1.false) (quoted-not _ _ c.before.past2.ensures c.if2.true))
+returns_2 : tie.Need-returns-2
+returns_2 c = refused_answer _ _ 53 (made_not_date _ _ _ _ (quoted_all _ _ c.before.before.before.past.ensures c.before.before.if1.false) (quoted_not _ _ c.before.past2.ensures c.if2.true))
 
 enum_told : tie.Need-enum-told
 enum_told c = search rules
@@ -49,29 +49,29 @@ store-line-requires-3 c κs = tt
 same_length : tie.Need-same-length
 same_length c = search rules
 
-returns-3 : tie.Need-returns-3
-returns-3 c = rw (c.before.before.before.before.before.enum_told.given.1, made-line _ Cmd _ _ (quoted-all _ _ c.before.before.before.before.before.before.before.before.before.before.past.ensures c.before.before.before.before.before.before.before.before.before.if1.false) (quoted-all _ _ c.before.before.before.before.before.before.before.before.past2.ensures c.before.before.before.before.before.before.before.if2.false)) c.before.before.Store-Line.ensures
+returns_3 : tie.Need-returns-3
+returns_3 c = rw (c.before.before.before.before.before.enum_told.given.1, made_line _ Cmd _ _ (quoted_all _ _ c.before.before.before.before.before.before.before.before.before.before.past.ensures c.before.before.before.before.before.before.before.before.before.if1.false) (quoted_all _ _ c.before.before.before.before.before.before.before.before.past2.ensures c.before.before.before.before.before.before.before.if2.false)) c.before.before.Store-Line.ensures
 
 same-length-2 : tie.Need-same-length-2
 same-length-2 c = search rules
 
-returns-4 : tie.Need-returns-4
-returns-4 c = rw (c.before.before.before.before.before.enum-told2.given.1, made-line _ Out _ _ (quoted-all _ _ c.before.before.before.before.before.before.before.before.before.before.past.ensures c.before.before.before.before.before.before.before.before.before.if1.false) (quoted-all _ _ c.before.before.before.before.before.before.before.before.past2.ensures c.before.before.before.before.before.before.before.if2.false)) c.before.before.store-line2.ensures
+returns_4 : tie.Need-returns-4
+returns_4 c = rw (c.before.before.before.before.before.enum-told2.given.1, made_line _ Out _ _ (quoted_all _ _ c.before.before.before.before.before.before.before.before.before.before.past.ensures c.before.before.before.before.before.before.before.before.before.if1.false) (quoted_all _ _ c.before.before.before.before.before.before.before.before.past2.ensures c.before.before.before.before.before.before.before.if2.false)) c.before.before.store-line2.ensures
 
 same-length-3 : tie.Need-same-length-3
 same-length-3 c = search rules
 
-returns-5 : tie.Need-returns-5
-returns-5 c = rw (c.before.before.before.before.before.enum-told3.given.1, made-line _ In _ _ (quoted-all _ _ c.before.before.before.before.before.before.before.before.before.before.past.ensures c.before.before.before.before.before.before.before.before.before.if1.false) (quoted-all _ _ c.before.before.before.before.before.before.before.before.past2.ensures c.before.before.before.before.before.before.before.if2.false)) c.before.before.store-line3.ensures
+returns_5 : tie.Need-returns-5
+returns_5 c = rw (c.before.before.before.before.before.enum-told3.given.1, made_line _ In _ _ (quoted_all _ _ c.before.before.before.before.before.before.before.before.before.before.past.ensures c.before.before.before.before.before.before.before.before.before.if1.false) (quoted_all _ _ c.before.before.before.before.before.before.before.before.past2.ensures c.before.before.before.before.before.before.before.if2.false)) c.before.before.store-line3.ensures
 
-pub write-line-spec : {M : Type 1} → statement M
-write-line-spec =
+pub write_line_spec : {M : Type 1} → statement M
+write_line_spec =
     tie.close
     (tie.spec
     past-requires
     returns
     past-requires-2
-    returns-2
+    returns_2
     enum_told
     slice-aggregate-store-line
     store-line-requires
@@ -82,8 +82,8 @@ write-line-spec =
     slice-aggregate-store-line-3
     store-line-requires-3
     same_length
-    returns-3
+    returns_3
     same-length-2
-    returns-4
+    returns_4
     same-length-3
-    returns-5)
+    returns_5)

@@ -1,6 +1,6 @@
 -- `descriptor::read_descriptor`, by identifier and tag.
 use mathlib.Core.Path.{◌≡◌, refl, ap, sym, ◌∙◌}
-use Rattle.descriptor.proofs.Tags.{is-avail, is-dtmf, is-segmentation, is-time, is-other, is-foreign}
+use Rattle.descriptor.proofs.Tags.{is_avail, is_dtmf, is_segmentation, is_time, is_other, is_foreign}
 use borrow.Author.Rules.{rules}
 use Rattle.descriptor.proofs.read_descriptor.Statement.{statement}
 use Rattle.descriptor.proofs.read_descriptor.Tie as tie
@@ -29,39 +29,39 @@ returns c =
     let if1 = match.before in
     let is-cuei = if1.before in
     let a = is-cuei.before.before.args in
-    c.read-avail.ensures ∙ is-avail a.tag a.identifier a.payload.now (sym is-cuei.is-cuei.ensures ∙ if1.if1.true) match.match.keys1
+    c.read-avail.ensures ∙ is_avail a.tag a.identifier a.payload.now (sym is-cuei.is-cuei.ensures ∙ if1.if1.true) match.match.keys1
 
-returns-2 : tie.Need-returns-2
-returns-2 c =
+returns_2 : tie.Need-returns-2
+returns_2 c =
     let match = c.before in
     let if1 = match.before in
     let is-cuei = if1.before in
     let a = is-cuei.before.before.args in
-    c.read-dtmf.ensures ∙ is-dtmf a.tag a.identifier a.payload.now (sym is-cuei.is-cuei.ensures ∙ if1.if1.true) match.match.keys2
+    c.read-dtmf.ensures ∙ is_dtmf a.tag a.identifier a.payload.now (sym is-cuei.is-cuei.ensures ∙ if1.if1.true) match.match.keys2
 
-returns-3 : tie.Need-returns-3
-returns-3 c =
+returns_3 : tie.Need-returns-3
+returns_3 c =
     let match = c.before in
     let if1 = match.before in
     let is-cuei = if1.before in
     let a = is-cuei.before.before.args in
-    c.read-segmentation.ensures ∙ is-segmentation a.tag a.identifier a.payload.now (sym is-cuei.is-cuei.ensures ∙ if1.if1.true) match.match.keys3
+    c.read-segmentation.ensures ∙ is_segmentation a.tag a.identifier a.payload.now (sym is-cuei.is-cuei.ensures ∙ if1.if1.true) match.match.keys3
 
-returns-4 : tie.Need-returns-4
-returns-4 c =
+returns_4 : tie.Need-returns-4
+returns_4 c =
     let match = c.before in
     let if1 = match.before in
     let is-cuei = if1.before in
     let a = is-cuei.before.before.args in
-    c.read-time.ensures ∙ is-time a.tag a.identifier a.payload.now (sym is-cuei.is-cuei.ensures ∙ if1.if1.true) match.match.keys4
+    c.read-time.ensures ∙ is_time a.tag a.identifier a.payload.now (sym is-cuei.is-cuei.ensures ∙ if1.if1.true) match.match.keys4
 
-returns-5 : tie.Need-returns-5
-returns-5 c =
+returns_5 : tie.Need-returns-5
+returns_5 c =
     let match = c.before in
     let if1 = match.before in
     let is-cuei = if1.before in
     let a = is-cuei.before.before.args in
-    c.read-reserved.ensures ∙ is-other a.tag a.identifier a.payload.now (sym is-cuei.is-cuei.ensures ∙ if1.if1.true) match.match.rest.0.0.0.1 match.match.rest.0.0.1 match.match.rest.0.1 match.match.rest.1
+    c.read-reserved.ensures ∙ is_other a.tag a.identifier a.payload.now (sym is-cuei.is-cuei.ensures ∙ if1.if1.true) match.match.rest.0.0.0.1 match.match.rest.0.0.1 match.match.rest.0.1 match.match.rest.1
 
 read-reserved-requires-2 : tie.Need-read-reserved-requires-2
 read-reserved-requires-2 c κs = search rules
@@ -71,22 +71,22 @@ returns-6 c =
     let if1 = c.before in
     let is-cuei = if1.before in
     let a = is-cuei.before.before.args in
-    c.read-reserved2.ensures ∙ is-foreign a.tag a.identifier a.payload.now (sym is-cuei.is-cuei.ensures ∙ if1.if1.false)
+    c.read-reserved2.ensures ∙ is_foreign a.tag a.identifier a.payload.now (sym is-cuei.is-cuei.ensures ∙ if1.if1.false)
 
-pub read-descriptor-spec : {M : Type 1} → statement M
-read-descriptor-spec =
+pub read_descriptor_spec : {M : Type 1} → statement M
+read_descriptor_spec =
     tie.close
     (tie.spec
     is-cuei-requires
     read-avail-requires
     returns
     read-dtmf-requires
-    returns-2
+    returns_2
     read-segmentation-requires
-    returns-3
+    returns_3
     read-time-requires
-    returns-4
+    returns_4
     read-reserved-requires
-    returns-5
+    returns_5
     read-reserved-requires-2
     returns-6)

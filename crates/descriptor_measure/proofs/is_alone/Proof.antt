@@ -1,5 +1,5 @@
 -- `descriptor_measure::is_alone`, both in turn.
-use Rattle.descriptor_measure.proofs.Tests.{zero-alone, not-alone}
+use Rattle.descriptor_measure.proofs.Tests.{zero_alone, not_alone}
 use mathlib.Core.Path.{sym, ◌∙◌}
 use Rattle.descriptor_measure.specs.Writing.{alone}
 use borrow.Author.Rules.{rules}
@@ -19,13 +19,13 @@ is-zero-requires-2 : tie.Need-is-zero-requires-2
 is-zero-requires-2 c κs = search rules
 
 returns : tie.Need-returns
-returns c = zero-alone _ _ _ _ c.before.before.before.is_zero.ensures c.before.before.if1.true c.is-zero2.ensures
+returns c = zero_alone _ _ _ _ c.before.before.before.is_zero.ensures c.before.before.if1.true c.is-zero2.ensures
 
-returns-2 : tie.Need-returns-2
-returns-2 c = not-alone _ _ _ c.before.is_zero.ensures c.if1.false
+returns_2 : tie.Need-returns-2
+returns_2 c = not_alone _ _ _ c.before.is_zero.ensures c.if1.false
 
-pub is-alone-spec : {M : Type 1} → statement M
-is-alone-spec =
+pub is_alone_spec : {M : Type 1} → statement M
+is_alone_spec =
     tie.close
     (tie.spec
     slice-aggregate-is-zero
@@ -33,4 +33,4 @@ is-alone-spec =
     slice-aggregate-is-zero-2
     is-zero-requires-2
     returns
-    returns-2)
+    returns_2)

@@ -3,13 +3,13 @@ use Prim.Native.Nat.{◌≤◌, ◌-◌}
 use mathlib.Core.Path.{◌≡◌, refl}
 use native.Mathlib.Omega.{arith}
 use lib.ListN.{length, drop}
-use Rattle.descriptor_measure.specs.Writing.{allZero}
-use Rattle.descriptor_measure.proofs.Tests.{zero_turn, zero-stop, zero-end}
+use Rattle.descriptor_measure.specs.Writing.{all_zero}
+use Rattle.descriptor_measure.proofs.Tests.{zero_turn, zero_stop, zero_end}
 use Rattle.descriptor_measure.proofs.is_zero.Statement.{statement}
 use Rattle.descriptor_measure.proofs.is_zero.Tie as tie
 
 abbrev invariant-loop : tie.invariant-loop
-invariant-loop bytes i₀ i = (i ≤ length bytes) × (allZero (drop i bytes) ≡ allZero bytes)
+invariant-loop bytes i₀ i = (i ≤ length bytes) × (all_zero (drop i bytes) ≡ all_zero bytes)
 
 abbrev decreases-loop : tie.decreases-loop
 decreases-loop bytes i₀ i = length bytes - i
@@ -23,7 +23,7 @@ shared-slice-read-if1 c = omega arith
 returns : tie.Need-returns invariant-loop decreases-loop
 returns c =
     let l = c.before.before.before in
-    zero-stop l.before.args.bytes.now l.loop.i l.loop.invariant.1 (omega arith) c.if1.true
+    zero_stop l.before.args.bytes.now l.loop.i l.loop.invariant.1 (omega arith) c.if1.true
 
 add-i : tie.Need-overflow-add-i invariant-loop decreases-loop
 add-i c = omega arith
@@ -36,13 +36,13 @@ loop-again c =
     let l = c.before.before.before in
     (omega arith, zero_turn l.before.args.bytes.now l.loop.i l.loop.invariant.1 (omega arith) c.if1.false)
 
-returns-2 : tie.Need-returns-2 invariant-loop decreases-loop
-returns-2 c =
+returns_2 : tie.Need-returns-2 invariant-loop decreases-loop
+returns_2 c =
     let l = c.before in
-    zero-end l.before.args.bytes.now l.loop.i l.loop.invariant.1 (omega arith) l.loop.invariant.0
+    zero_end l.before.args.bytes.now l.loop.i l.loop.invariant.1 (omega arith) l.loop.invariant.0
 
-pub is-zero-spec : {M : Type 1} → statement M
-is-zero-spec =
+pub is_zero_spec : {M : Type 1} → statement M
+is_zero_spec =
     tie.close
     (tie.spec
     invariant-loop
@@ -53,4 +53,4 @@ is-zero-spec =
     add-i
     loop-less
     loop-again
-    returns-2)
+    returns_2)

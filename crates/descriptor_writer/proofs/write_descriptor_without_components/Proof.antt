@@ -1,5 +1,5 @@
 -- `descriptor_writer::write_descriptor_without_components`, kind by kind.
-use Rattle.descriptor_writer.proofs.Describing.{as-avail, as-dtmf, as-segmentation, as-time, as-reserved}
+use Rattle.descriptor_writer.proofs.Describing.{as_avail, as_dtmf, as_segmentation, as_time, as_reserved}
 use borrow.Author.Rules.{rules}
 use Rattle.descriptor_writer.proofs.write_descriptor_without_components.Statement.{statement}
 use Rattle.descriptor_writer.proofs.write_descriptor_without_components.Tie as tie
@@ -39,38 +39,38 @@ same_length c = search rules
 
 returns : tie.Need-returns
 returns c =
-    as-avail _ _ _ _ _ _ _ _ c.before.before.before.before.before.d.given.1 c.before.before.write-avail.ensures
+    as_avail _ _ _ _ _ _ _ _ c.before.before.before.before.before.d.given.1 c.before.before.write-avail.ensures
 
 same-length-2 : tie.Need-same-length-2
 same-length-2 c = search rules
 
-returns-2 : tie.Need-returns-2
-returns-2 c =
-    as-dtmf _ _ _ _ _ _ _ _ c.before.before.before.before.before.d2.given.1 c.before.before.write-dtmf.ensures
+returns_2 : tie.Need-returns-2
+returns_2 c =
+    as_dtmf _ _ _ _ _ _ _ _ c.before.before.before.before.before.d2.given.1 c.before.before.write-dtmf.ensures
 
 same-length-3 : tie.Need-same-length-3
 same-length-3 c = search rules
 
-returns-3 : tie.Need-returns-3
-returns-3 c =
-    as-segmentation _ _ _ _ _ _ _ _ c.before.before.before.before.before.d3.given.1 c.before.before.write-segmentation-without-components.ensures
+returns_3 : tie.Need-returns-3
+returns_3 c =
+    as_segmentation _ _ _ _ _ _ _ _ c.before.before.before.before.before.d3.given.1 c.before.before.write-segmentation-without-components.ensures
 
 same-length-4 : tie.Need-same-length-4
 same-length-4 c = search rules
 
-returns-4 : tie.Need-returns-4
-returns-4 c =
-    as-time _ _ _ _ _ _ _ _ c.before.before.before.before.before.d4.given.1 c.before.before.write-time.ensures
+returns_4 : tie.Need-returns-4
+returns_4 c =
+    as_time _ _ _ _ _ _ _ _ c.before.before.before.before.before.d4.given.1 c.before.before.write-time.ensures
 
 same-length-5 : tie.Need-same-length-5
 same-length-5 c = search rules
 
-returns-5 : tie.Need-returns-5
-returns-5 c =
-    as-reserved _ _ _ _ _ _ _ _ _ c.before.before.before.before.before.d5.given.1 c.before.before.write-reserved.ensures
+returns_5 : tie.Need-returns-5
+returns_5 c =
+    as_reserved _ _ _ _ _ _ _ _ _ c.before.before.before.before.before.d5.given.1 c.before.before.write-reserved.ensures
 
-pub write-descriptor-without-components-spec : {M : Type 1} → statement M
-write-descriptor-without-components-spec =
+pub write_descriptor_without_components_spec : {M : Type 1} → statement M
+write_descriptor_without_components_spec =
     tie.close
     (tie.spec
     enum-known-d
@@ -86,10 +86,10 @@ write-descriptor-without-components-spec =
     same_length
     returns
     same-length-2
-    returns-2
+    returns_2
     same-length-3
-    returns-3
+    returns_3
     same-length-4
-    returns-4
+    returns_4
     same-length-5
-    returns-5)
+    returns_5)

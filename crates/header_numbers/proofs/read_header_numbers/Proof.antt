@@ -4,9 +4,9 @@ use mathlib.Core.List.{List}
 use mathlib.Core.Path.{◌≡◌, sym}
 use native.Mathlib.Omega.{arith}
 use Rattle.table.specs.Bits.{bits_of, field}
-use Rattle.table.proofs.Fields.{byte-field}
+use Rattle.table.proofs.Fields.{byte_field}
 use Rattle.table.proofs.Reading.{first_bit, field_lt}
-use Rattle.header_numbers.proofs.Places.{too_short, numbers-are, algorithm-of, high_part, low_part}
+use Rattle.header_numbers.proofs.Places.{too_short, numbers_are, algorithm_of_lem, high_part, low_part}
 use borrow.Author.Rules.{rules}
 use Rattle.header_numbers.proofs.read_header_numbers.Statement.{statement}
 use Rattle.header_numbers.proofs.read_header_numbers.Tie as tie
@@ -18,8 +18,8 @@ bytes c = c.before.before.before.before.args.s.now
 abbrev flags : tie.After-big-endian → tie.After-wide
 flags c = c.before.before.before.before
 
-tier-is : (c : tie.After-big-endian) → c.big_endian.result / 16 ≡ field (bits_of (bytes (flags c))) 56 12
-tier-is c = let s = bytes (flags c) in high_part s 56 12 4 c.big_endian.result (omega arith) (omega (arith, (flags c).before.before.if1.false)) c.big_endian.ensures
+tier_is : (c : tie.After-big-endian) → c.big_endian.result / 16 ≡ field (bits_of (bytes (flags c))) 56 12
+tier_is c = let s = bytes (flags c) in high_part s 56 12 4 c.big_endian.result (omega arith) (omega (arith, (flags c).before.before.if1.false)) c.big_endian.ensures
 
 returns : tie.Need-returns
 returns c = too_short c.before.before.args.s.now c.if1.true
@@ -46,7 +46,7 @@ big-endian-requires : tie.Need-big-endian-requires
 big-endian-requires c κs = search rules
 
 cast-t17 : tie.Need-overflow-cast-t17
-cast-t17 c = omega (arith, tier-is c, field_lt (bytes (flags c)) 56 12)
+cast-t17 c = omega (arith, tier_is c, field_lt (bytes (flags c)) 56 12)
 
 big-endian-requires-2 : tie.Need-big-endian-requires-2
 big-endian-requires-2 c κs = search rules
@@ -57,26 +57,26 @@ cast-t20 c = search rules
 shared-slice-read-t22 : tie.Need-shared-slice-read-t22
 shared-slice-read-t22 c = search rules
 
-returns-2 : tie.Need-returns-2
-returns-2 c =
+returns_2 : tie.Need-returns-2
+returns_2 c =
     let d = c.before in
     let b = d.before in
     let w = flags b in
     let i = b.before.before.before in
     let s = bytes w in
     let long = w.before.before.if1.left in
-    numbers-are s _ _ _ _ _ _ _ _ long
-    (sym (byte-field s 0 (omega (arith, long)) (i.shared-slice-known3.given 0).fits))
+    numbers_are s _ _ _ _ _ _ _ _ long
+    (sym (byte_field s 0 (omega (arith, long)) (i.shared-slice-known3.given 0).fits))
     (first_bit s 1 w.wide.result (omega (arith, long)) w.wide.ensures.0 w.wide.ensures.1)
-    (algorithm-of s 1 w.wide.result (omega (arith, long)) w.wide.ensures.0 w.wide.ensures.1)
+    (algorithm_of_lem s 1 w.wide.result (omega (arith, long)) w.wide.ensures.0 w.wide.ensures.1)
     b.before.before.time33.ensures
-    (sym (byte-field s 6 (omega (arith, long)) (b.before.shared-slice-known4.given 6).fits))
-    (tier-is b)
+    (sym (byte_field s 6 (omega (arith, long)) (b.before.shared-slice-known4.given 6).fits))
+    (tier_is b)
     (low_part s 64 4 12 d.big-endian2.result (omega arith) (omega (arith, long)) d.big-endian2.ensures)
-    (sym (byte-field s 10 (omega (arith, long)) (c.shared-slice-known5.given 10).fits))
+    (sym (byte_field s 10 (omega (arith, long)) (c.shared-slice-known5.given 10).fits))
 
-pub read-header-numbers-spec : {M : Type 1} → statement M
-read-header-numbers-spec =
+pub read_header_numbers_spec : {M : Type 1} → statement M
+read_header_numbers_spec =
     tie.close
     (tie.spec
     returns
@@ -91,4 +91,4 @@ read-header-numbers-spec =
     big-endian-requires-2
     cast-t20
     shared-slice-read-t22
-    returns-2)
+    returns_2)

@@ -1,6 +1,6 @@
 -- `loop_listing::list` meets its contract: a loop whose items were counted is not too long.
 use mathlib.Core.Path.{sym, ◌∙◌}
-use Rattle.descriptor_loop.proofs.Theorems.{counted-fits}
+use Rattle.descriptor_loop.proofs.Theorems.{counted_fits}
 use borrow.Author.Rules.{rules}
 use Rattle.loop_listing.proofs.list.Statement.{statement}
 use Rattle.loop_listing.proofs.list.Tie as tie
@@ -36,16 +36,16 @@ write-all-requires-3 : tie.Need-write-all-requires-3
 write-all-requires-3 c κs = search rules
 
 print-items-requires : tie.Need-print-items-requires
-print-items-requires c κs = let n = c.before.before.before.before.before.before in counted-fits _ _ (sym n.before.before.count-items.ensures ∙ n.n.given.1)
+print-items-requires c κs = let n = c.before.before.before.before.before.before in counted_fits _ _ (sym n.before.before.count-items.ensures ∙ n.n.given.1)
 
 returns : tie.Need-returns
 returns c = search rules
 
-returns-2 : tie.Need-returns-2
-returns-2 c = search rules
+returns_2 : tie.Need-returns-2
+returns_2 c = search rules
 
-pub list-spec : {M : Type 1} → statement M
-list-spec =
+pub list_spec : {M : Type 1} → statement M
+list_spec =
     tie.close
     (tie.spec
     count-items-requires
@@ -60,4 +60,4 @@ list-spec =
     write-all-requires-3
     print-items-requires
     returns
-    returns-2)
+    returns_2)

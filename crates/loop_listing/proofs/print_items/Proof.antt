@@ -3,7 +3,7 @@ use Prim.Native.Nat.{◌-◌, ◌≤◌}
 use native.Mathlib.Omega.{arith}
 use lib.ListN.{length}
 use borrow.Author.Rules.{rules}
-use Rattle.descriptor_loop.proofs.Lists.{step-forward}
+use Rattle.descriptor_loop.proofs.Lists.{step_forward}
 use Rattle.loop_listing.proofs.print_items.Statement.{statement}
 use Rattle.loop_listing.proofs.print_items.Tie as tie
 
@@ -23,7 +23,7 @@ print-decimal-requires : tie.Need-print-decimal-requires invariant-loop decrease
 print-decimal-requires c κs = search rules
 
 sub-value : tie.Need-overflow-sub-value invariant-loop decreases-loop
-sub-value c = let s = c.before in omega (arith, step-forward _ _ _ s.before.before.loop.invariant s.before.loop-test.true s.step.ensures)
+sub-value c = let s = c.before in omega (arith, step_forward _ _ _ s.before.before.loop.invariant s.before.loop-test.true s.step.ensures)
 
 value-requires : tie.Need-value-requires invariant-loop decreases-loop
 value-requires c κs = search rules
@@ -38,7 +38,7 @@ write-all-requires : tie.Need-write-all-requires invariant-loop decreases-loop
 write-all-requires c κs = search rules
 
 loop-less : tie.Need-loop-smaller invariant-loop decreases-loop
-loop-less c = let s = c.before.before.before.before.before in omega (arith, step-forward _ _ _ s.before.before.loop.invariant s.before.loop-test.true s.step.ensures)
+loop-less c = let s = c.before.before.before.before.before in omega (arith, step_forward _ _ _ s.before.before.loop.invariant s.before.loop-test.true s.step.ensures)
 
 loop-again : tie.Need-loop-preserved invariant-loop decreases-loop
 loop-again c = c.before.before.before.before.before.before.before.loop.invariant
@@ -46,8 +46,8 @@ loop-again c = c.before.before.before.before.before.before.before.loop.invariant
 returns : tie.Need-returns invariant-loop decreases-loop
 returns c = search rules
 
-pub print-items-spec : {M : Type 1} → statement M
-print-items-spec =
+pub print_items_spec : {M : Type 1} → statement M
+print_items_spec =
     tie.close
     (tie.spec
     invariant-loop

@@ -14,11 +14,11 @@ add-old c = search rules
 sub-old : tie.Need-overflow-sub-old
 sub-old c = search rules
 
-shared-slice-read-size : tie.Need-shared-slice-read-size
-shared-slice-read-size c = search rules
+shared_slice_read_size : tie.Need-shared-slice-read-size
+shared_slice_read_size c = search rules
 
-size-requires : tie.Need-size-requires
-size-requires c κs = search rules
+size_requires : tie.Need-size-requires
+size_requires c κs = search rules
 
 sub-item : tie.Need-overflow-sub-item
 sub-item c = search rules
@@ -43,15 +43,15 @@ returns c =
     let l = c.lesser.ensures in
     limit_is a.section.now a.p _ _ _ _ _ st.requires z.size.ensures.0 refl refl refl l.0 l.1 l.2 l.3
 
-pub limit-of-spec : {M : Type 1} → statement M
-limit-of-spec =
+pub limit_of_spec : {M : Type 1} → statement M
+limit_of_spec =
     tie.close
     (tie.spec
     add-own
     add-old
     sub-old
-    shared-slice-read-size
-    size-requires
+    shared_slice_read_size
+    size_requires
     sub-item
     sub-others
     sub-lesser

@@ -1,11 +1,11 @@
 -- `relabel::relabel`: by the section's frame and its command.
 use mathlib.Core.Path.{◌≡◌, ap, sym, ◌∙◌}
 use native.Mathlib.Omega.{arith}
-use Rattle.bit_stores.proofs.Writes.{refused-answer}
-use Rattle.bit_stores.specs.Written.{answer_of, laterOf}
-use Rattle.section.proofs.Framing.{Framed, framed, command-at}
+use Rattle.bit_stores.proofs.Writes.{refused_answer}
+use Rattle.bit_stores.specs.Written.{answer_of, later_of}
+use Rattle.section.proofs.Framing.{Framed, framed, command_at}
 use Rattle.table.specs.Writing.{Made}
-use Rattle.relabel.proofs.Mades.{frame_refused, command-unknown, command-malformed, command-is, frame-len}
+use Rattle.relabel.proofs.Mades.{frame_refused, command_unknown, command_malformed, command_is_lem, frame_len}
 use borrow.Author.Rules.{rules}
 use Rattle.relabel.proofs.relabel.Statement.{statement}
 use Rattle.relabel.proofs.relabel.Tie as tie
@@ -28,10 +28,10 @@ returns c =
     let rf = r.before.before in
     let st = rf.before.before.before.before in
     let a = st.args in
-    refused-answer _ a.target.now _ (frame_refused a.section.now a.offset a.part a.upid-type a.new.now _ _ (sym r.r.given.1 ∙ rf.read-frame.ensures) c.number.ensures)
+    refused_answer _ a.target.now _ (frame_refused a.section.now a.offset a.part a.upid_type_number a.new.now _ _ (sym r.r.given.1 ∙ rf.read-frame.ensures) c.number.ensures)
 
-add-end : tie.Need-overflow-add-end
-add-end c =
+add_end : tie.Need-overflow-add-end
+add_end c =
     let f = c.before.before.before in
     let rf = f.before.before in
     let w = framed _ _ (sym f.f.given.1 ∙ rf.read-frame.ensures) in
@@ -77,8 +77,8 @@ enum-told-2 c = search rules
 number-requires-2 : tie.Need-number-requires-2
 number-requires-2 c κs = search rules
 
-returns-2 : tie.Need-returns-2
-returns-2 c =
+returns_2 : tie.Need-returns-2
+returns_2 c =
     let told = c.before in
     let rc = told.before.before in
     let f = rc.before.before.before.before.before.before in
@@ -87,8 +87,8 @@ returns-2 c =
     let a = st.args in
     let s = a.section.now in
     let e = sym f.f.given.1 ∙ rf.read-frame.ensures in
-    let read = sym (command-at s _ (framed s _ e).place) ∙ sym rc.read-command.ensures in
-    refused-answer _ a.target.now _ (command-unknown s a.offset a.part a.upid-type a.new.now _ e _ c.number2.ensures (read ∙ told.enum-told2.given.1))
+    let read = sym (command_at s _ (framed s _ e).place) ∙ sym rc.read-command.ensures in
+    refused_answer _ a.target.now _ (command_unknown s a.offset a.part a.upid_type_number a.new.now _ e _ c.number2.ensures (read ∙ told.enum-told2.given.1))
 
 enum-told-3 : tie.Need-enum-told-3
 enum-told-3 c = search rules
@@ -96,8 +96,8 @@ enum-told-3 c = search rules
 number-requires-3 : tie.Need-number-requires-3
 number-requires-3 c κs = search rules
 
-returns-3 : tie.Need-returns-3
-returns-3 c =
+returns_3 : tie.Need-returns-3
+returns_3 c =
     let told = c.before in
     let rc = told.before.before in
     let f = rc.before.before.before.before.before.before in
@@ -106,8 +106,8 @@ returns-3 c =
     let a = st.args in
     let s = a.section.now in
     let e = sym f.f.given.1 ∙ rf.read-frame.ensures in
-    let read = sym (command-at s _ (framed s _ e).place) ∙ sym rc.read-command.ensures in
-    refused-answer _ a.target.now _ (command-malformed s a.offset a.part a.upid-type a.new.now _ e _ c.number3.ensures (read ∙ told.enum-told3.given.1))
+    let read = sym (command_at s _ (framed s _ e).place) ∙ sym rc.read-command.ensures in
+    refused_answer _ a.target.now _ (command_malformed s a.offset a.part a.upid_type_number a.new.now _ e _ c.number3.ensures (read ∙ told.enum-told3.given.1))
 
 relabel-in-requires : tie.Need-relabel-in-requires
 relabel-in-requires c κs =
@@ -120,13 +120,13 @@ relabel-in-requires c κs =
     let s = a.section.now in
     let e = sym f.f.given.1 ∙ rf.read-frame.ensures in
     let w = framed s _ e in
-    (w.at, frame-len s _ e, w.fits, w.short)
+    (w.at, frame_len s _ e, w.fits, w.short)
 
 same_length : tie.Need-same-length
 same_length c = search rules
 
-returns-4 : tie.Need-returns-4
-returns-4 c =
+returns_4 : tie.Need-returns-4
+returns_4 c =
     let ri = c.before.before in
     let told = ri.before.before.before in
     let rc = told.before.before in
@@ -136,11 +136,11 @@ returns-4 c =
     let a = st.args in
     let s = a.section.now in
     let e = sym f.f.given.1 ∙ rf.read-frame.ensures in
-    let is = command-is s a.offset a.part a.upid-type a.new.now _ e _ (sym (command-at s _ (framed s _ e).place) ∙ sym rc.read-command.ensures ∙ told.enum_told.given.1) in
-    (ri.relabel-in.ensures.0 ∙ ap (λ (m : Made). answer_of m a.target.now) (sym is), ri.relabel-in.ensures.1 ∙ ap (λ (m : Made). laterOf m a.target.now) (sym is))
+    let is = command_is_lem s a.offset a.part a.upid_type_number a.new.now _ e _ (sym (command_at s _ (framed s _ e).place) ∙ sym rc.read-command.ensures ∙ told.enum_told.given.1) in
+    (ri.relabel-in.ensures.0 ∙ ap (λ (m : Made). answer_of m a.target.now) (sym is), ri.relabel-in.ensures.1 ∙ ap (λ (m : Made). later_of m a.target.now) (sym is))
 
-pub relabel-spec : {M : Type 1} → statement M
-relabel-spec =
+pub relabel_spec : {M : Type 1} → statement M
+relabel_spec =
     tie.close
     (tie.spec
     read-frame-requires
@@ -148,7 +148,7 @@ relabel-spec =
     enum-known-r
     number-requires
     returns
-    add-end
+    add_end
     shared-slice-read-read-command
     sub-read-command
     part-read-command-start
@@ -157,10 +157,10 @@ relabel-spec =
     enum_told
     enum-told-2
     number-requires-2
-    returns-2
+    returns_2
     enum-told-3
     number-requires-3
-    returns-3
+    returns_3
     relabel-in-requires
     same_length
-    returns-4)
+    returns_4)

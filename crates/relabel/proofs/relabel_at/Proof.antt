@@ -2,7 +2,7 @@
 use Prim.Native.Nat.{ℕ, ◌+◌, ◌-◌, ◌<◌, ◌≤◌}
 use mathlib.Core.Path.{◌≡◌, refl, ap, sym, ◌∙◌}
 use native.Mathlib.Omega.{arith}
-use Rattle.relabel.proofs.Ats.{refused-at, Stored, wrote_at, all-wrote}
+use Rattle.relabel.proofs.Ats.{refused_at, Stored, wrote_at, all_wrote}
 use borrow.Author.Rules.{rules}
 use Rattle.relabel.proofs.relabel_at.Statement.{statement}
 use Rattle.relabel.proofs.relabel_at.Tie as tie
@@ -69,7 +69,7 @@ returns c =
     let y = l.before in
     let st = y.before.before.before.before in
     let a = st.args in
-    refused-at a.section.now a.p a.limit a.part a.new-type a.new.now a.target.now st.requires.0 st.requires.1 _ _ y.beyond.ensures l.lesser.ensures.1 l.lesser.ensures.2 _ _ (sym m.made2.given.1 ∙ up.relabel-upid.ensures.0) up.relabel-upid.ensures.1
+    refused_at a.section.now a.p a.limit a.part a.new_type a.new.now a.target.now st.requires.0 st.requires.1 _ _ y.beyond.ensures l.lesser.ensures.1 l.lesser.ensures.2 _ _ (sym m.made2.given.1 ∙ up.relabel-upid.ensures.0) up.relabel-upid.ensures.1
 
 type-then-requires : tie.Need-type-then-requires
 type-then-requires c κs = search rules
@@ -82,7 +82,7 @@ store-around-requires c κs =
     let y = l.before in
     let st = y.before.before.before.before in
     let a = st.args in
-    let w = wrote_at a.section.now a.p a.limit a.part a.new-type a.new.now a.target.now st.requires.0 st.requires.1 _ _ y.beyond.ensures l.lesser.ensures.1 l.lesser.ensures.2 _ _ (sym m.made.given.1 ∙ up.relabel-upid.ensures.0) up.relabel-upid.ensures.1 in
+    let w = wrote_at a.section.now a.p a.limit a.part a.new_type a.new.now a.target.now st.requires.0 st.requires.1 _ _ y.beyond.ensures l.lesser.ensures.1 l.lesser.ensures.2 _ _ (sym m.made.given.1 ∙ up.relabel-upid.ensures.0) up.relabel-upid.ensures.1 in
     (st.requires.0, w.takes, w.leaves)
 
 add-t20 : tie.Need-overflow-add-t20
@@ -93,14 +93,14 @@ add-t20 c =
     let y = l.before in
     let st = y.before.before.before.before in
     let a = st.args in
-    let w = wrote_at a.section.now a.p a.limit a.part a.new-type a.new.now a.target.now st.requires.0 st.requires.1 _ _ y.beyond.ensures l.lesser.ensures.1 l.lesser.ensures.2 _ _ (sym m.made.given.1 ∙ up.relabel-upid.ensures.0) up.relabel-upid.ensures.1 in
+    let w = wrote_at a.section.now a.p a.limit a.part a.new_type a.new.now a.target.now st.requires.0 st.requires.1 _ _ y.beyond.ensures l.lesser.ensures.1 l.lesser.ensures.2 _ _ (sym m.made.given.1 ∙ up.relabel-upid.ensures.0) up.relabel-upid.ensures.1 in
     record { fits = w.small }
 
 same-length-2 : tie.Need-same-length-2
 same-length-2 c = search rules
 
-returns-2 : tie.Need-returns-2
-returns-2 c =
+returns_2 : tie.Need-returns-2
+returns_2 c =
     let r = c.before.before in
     let kt = r.before.before in
     let m = kt.before.before in
@@ -109,11 +109,11 @@ returns-2 c =
     let y = l.before in
     let st = y.before.before.before.before in
     let a = st.args in
-    let w = wrote_at a.section.now a.p a.limit a.part a.new-type a.new.now a.target.now st.requires.0 st.requires.1 _ _ y.beyond.ensures l.lesser.ensures.1 l.lesser.ensures.2 _ _ (sym m.made.given.1 ∙ up.relabel-upid.ensures.0) up.relabel-upid.ensures.1 in
-    all-wrote a.section.now a.p a.limit a.part a.new-type a.new.now a.target.now st.requires.0 w.b w.is _ _ _ _ w.size kt.type-then.ensures w.fits w.stores r.store-around.ensures
+    let w = wrote_at a.section.now a.p a.limit a.part a.new_type a.new.now a.target.now st.requires.0 st.requires.1 _ _ y.beyond.ensures l.lesser.ensures.1 l.lesser.ensures.2 _ _ (sym m.made.given.1 ∙ up.relabel-upid.ensures.0) up.relabel-upid.ensures.1 in
+    all_wrote a.section.now a.p a.limit a.part a.new_type a.new.now a.target.now st.requires.0 w.b w.is _ _ _ _ w.size kt.type_then_lem.ensures w.fits w.stores r.store-around.ensures
 
-pub relabel-at-spec : {M : Type 1} → statement M
-relabel-at-spec =
+pub relabel_at_spec : {M : Type 1} → statement M
+relabel_at_spec =
     tie.close
     (tie.spec
     add_start
@@ -139,4 +139,4 @@ relabel-at-spec =
     store-around-requires
     add-t20
     same-length-2
-    returns-2)
+    returns_2)

@@ -22,5 +22,5 @@ returns c =
     let a = st.args in
     b.store-back.ensures ∙ ap (sealed a.section.now a.p a.n) f.store-front.ensures
 
-pub store-around-spec : {M : Type 1} → statement M
-store-around-spec = tie.close (tie.spec store-front-requires store-back-requires same_length returns)
+pub store_around_spec : {M : Type 1} → statement M
+store_around_spec = tie.close (tie.spec store-front-requires store-back-requires same_length returns)

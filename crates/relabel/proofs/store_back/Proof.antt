@@ -1,12 +1,12 @@
 -- `relabel::store_back`: two stores, and the CRC between them.
 use mathlib.Core.Path.{◌≡◌, refl}
-use Rattle.relabel.proofs.Stores.{back-stored}
+use Rattle.relabel.proofs.Stores.{back_stored}
 use borrow.Author.Rules.{rules}
 use Rattle.relabel.proofs.store_back.Statement.{statement}
 use Rattle.relabel.proofs.store_back.Tie as tie
 
-sub-last : tie.Need-overflow-sub-last
-sub-last c = search rules
+sub_last : tie.Need-overflow-sub-last
+sub_last c = search rules
 
 add_at : tie.Need-overflow-add-at
 add_at c = search rules
@@ -60,13 +60,13 @@ returns c =
     let b = k.before.before.before.before.before in
     let st = b.before.before.before.before.before.before in
     let a = st.args in
-    back-stored a.section.now a.p a.n a.target.now _ _ _ _ refl b.put-bytes.ensures k.crc32.ensures num.put-number.ensures
+    back_stored a.section.now a.p a.n a.target.now _ _ _ _ refl b.put_bytes.ensures k.crc32.ensures num.put_number.ensures
 
-pub store-back-spec : {M : Type 1} → statement M
-store-back-spec =
+pub store_back_spec : {M : Type 1} → statement M
+store_back_spec =
     tie.close
     (tie.spec
-    sub-last
+    sub_last
     add_at
     add-at-2
     sub-put-bytes

@@ -3,8 +3,8 @@ use Prim.Native.Nat.{ℕ, ◌+◌, ◌*◌}
 use mathlib.Core.Path.{◌≡◌, refl, ap, ◌∙◌}
 use native.Mathlib.Omega.{arith}
 use lib.ListN.{length}
-use Rattle.table.proofs.Stores.{length-stored}
-use Rattle.relabel.proofs.Stores.{takes-small, front-stored}
+use Rattle.table.proofs.Stores.{length_stored}
+use Rattle.relabel.proofs.Stores.{takes_small, front_stored}
 use borrow.Author.Rules.{rules}
 use Rattle.relabel.proofs.store_front.Statement.{statement}
 use Rattle.relabel.proofs.store_front.Tie as tie
@@ -39,11 +39,11 @@ part-put-bytes-end c = search rules
 put-bytes-requires : tie.Need-put-bytes-requires
 put-bytes-requires c κs = search rules
 
-shared-slice-read-size : tie.Need-shared-slice-read-size
-shared-slice-read-size c = search rules
+shared_slice_read_size : tie.Need-shared-slice-read-size
+shared_slice_read_size c = search rules
 
-size-requires : tie.Need-size-requires
-size-requires c κs = search rules
+size_requires : tie.Need-size-requires
+size_requires c κs = search rules
 
 mul-store-two : tie.Need-overflow-mul-store-two
 mul-store-two c = search rules
@@ -97,7 +97,7 @@ add-store-two-3 c =
     let s₁ = s₂.before.before.before.before.before.before in
     let b = s₁.before.before.before.before.before.before in
     let st = b.before.before.before.before.before.before.before in
-    record { fits = omega (arith, c.size3.ensures.1, takes-small _ _ _ st.requires.1) }
+    record { fits = omega (arith, c.size3.ensures.1, takes_small _ _ _ st.requires.1) }
 
 store-two-requires-3 : tie.Need-store-two-requires-3
 store-two-requires-3 c κs =
@@ -106,9 +106,9 @@ store-two-requires-3 c κs =
     let s₁ = s₂.before.before.before.before.before.before in
     let b = s₁.before.before.before.before.before.before in
     let st = b.before.before.before.before.before.before.before in
-    let l = ap length o.store-one.ensures ∙ length-stored _ _ _ ∙ ap length s₂.store-two2.ensures ∙ length-stored _ _ _ ∙ ap length s₁.store_two.ensures ∙ length-stored _ _ _
-    ∙ ap length b.put-bytes.ensures ∙ length-stored _ _ _ in
-    (omega (arith, l, st.requires.2), omega (arith, c.size3.ensures.1, takes-small _ _ _ st.requires.1))
+    let l = ap length o.store-one.ensures ∙ length_stored _ _ _ ∙ ap length s₂.store-two2.ensures ∙ length_stored _ _ _ ∙ ap length s₁.store_two.ensures ∙ length_stored _ _ _
+    ∙ ap length b.put_bytes.ensures ∙ length_stored _ _ _ in
+    (omega (arith, l, st.requires.2), omega (arith, c.size3.ensures.1, takes_small _ _ _ st.requires.1))
 
 same_length : tie.Need-same-length
 same_length c = search rules
@@ -125,11 +125,11 @@ returns c =
     let b = z₁.before.before.before.before.before in
     let st = b.before.before.before.before.before.before.before in
     let a = st.args in
-    front-stored a.section.now a.p a.n st.requires.0 a.target.now _ _ _ _ _ a.upid-type _ _ _ _ _ _ _ z₁.size.ensures.0 refl refl refl z₂.size2.ensures.0 refl
-    (ap (λ (v : ℕ). v * 256 + a.n) z₃.size3.ensures.0) b.put-bytes.ensures s₁.store_two.ensures s₂.store-two2.ensures o.store-one.ensures s₃.store-two3.ensures st.requires.2
+    front_stored a.section.now a.p a.n st.requires.0 a.target.now _ _ _ _ _ a.upid_type_number _ _ _ _ _ _ _ z₁.size.ensures.0 refl refl refl z₂.size2.ensures.0 refl
+    (ap (λ (v : ℕ). v * 256 + a.n) z₃.size3.ensures.0) b.put_bytes.ensures s₁.store_two.ensures s₂.store-two2.ensures o.store-one.ensures s₃.store-two3.ensures st.requires.2
 
-pub store-front-spec : {M : Type 1} → statement M
-store-front-spec =
+pub store_front_spec : {M : Type 1} → statement M
+store_front_spec =
     tie.close
     (tie.spec
     add_start
@@ -142,8 +142,8 @@ store-front-spec =
     part-put-bytes-start
     part-put-bytes-end
     put-bytes-requires
-    shared-slice-read-size
-    size-requires
+    shared_slice_read_size
+    size_requires
     mul-store-two
     add-store-two
     store-two-requires

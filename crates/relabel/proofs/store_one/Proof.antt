@@ -1,5 +1,5 @@
 -- `relabel::store_one`.
-use Rattle.relabel.proofs.Stores.{one-stored}
+use Rattle.relabel.proofs.Stores.{one_stored}
 use borrow.Author.Rules.{rules}
 use Rattle.relabel.proofs.store_one.Statement.{statement}
 use Rattle.relabel.proofs.store_one.Tie as tie
@@ -11,7 +11,7 @@ same_length : tie.Need-same-length
 same_length c = search rules
 
 returns : tie.Need-returns
-returns c = one-stored _ _ _ c.requires
+returns c = one_stored _ _ _ c.requires
 
-pub store-one-spec : {M : Type 1} → statement M
-store-one-spec = tie.close (tie.spec slice-write-target same_length returns)
+pub store_one_spec : {M : Type 1} → statement M
+store_one_spec = tie.close (tie.spec slice-write-target same_length returns)

@@ -1,5 +1,5 @@
 -- `relabel::store_two`: two stores as one.
-use Rattle.relabel.proofs.Stores.{two-stored}
+use Rattle.relabel.proofs.Stores.{two_stored}
 use borrow.Author.Rules.{rules}
 use Rattle.relabel.proofs.store_two.Statement.{statement}
 use Rattle.relabel.proofs.store_two.Tie as tie
@@ -28,10 +28,10 @@ returns c =
     let b₁ = b₂.before.before.before.before in
     let st = b₁.before.before.before in
     let a = st.args in
-    two-stored a.target.now _ _ a.at a.v st.requires.1 st.requires.0 b₁.store-one.ensures b₂.store-one2.ensures
+    two_stored a.target.now _ _ a.at a.v st.requires.1 st.requires.0 b₁.store-one.ensures b₂.store-one2.ensures
 
-pub store-two-spec : {M : Type 1} → statement M
-store-two-spec =
+pub store_two_spec : {M : Type 1} → statement M
+store_two_spec =
     tie.close
     (tie.spec
     cast-store-one

@@ -8,8 +8,8 @@ use Rattle.relabel_found.proofs.duration_size.Tie as tie
 returns : tie.Need-returns
 returns c = (rw (eq-eqb _ _ c.if1.true), omega arith)
 
-returns-2 : tie.Need-returns-2
-returns-2 c = (rw (ne_eqb _ _ c.if1.false), omega arith)
+returns_2 : tie.Need-returns-2
+returns_2 c = (rw (ne_eqb _ _ c.if1.false), omega arith)
 
-pub duration-size-spec : {M : Type 1} → statement M
-duration-size-spec = tie.close (tie.spec returns returns-2)
+pub duration_size_spec : {M : Type 1} → statement M
+duration_size_spec = tie.close (tie.spec returns returns_2)

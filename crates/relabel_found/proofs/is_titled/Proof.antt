@@ -1,40 +1,40 @@
 -- `relabel_found::is_titled`: its tests in turn; `w` is the place that knows the length.
 use native.Mathlib.Omega.{arith}
 use mathlib.Core.Path.{refl, ◌∙◌}
-use Rattle.relabel_found.proofs.Titles.{few-left, low, over, full, other_tag, by-identifier, cuei-in}
+use Rattle.relabel_found.proofs.Titles.{few_left, low, over, full, other_tag, by_identifier, cuei_in}
 use borrow.Author.Rules.{rules}
 use Rattle.relabel_found.proofs.is_titled.Statement.{statement}
 use Rattle.relabel_found.proofs.is_titled.Tie as tie
 
 returns : tie.Need-returns
-returns c = let a = c.before.before.args in few-left a.items.now a.offset (omega (arith, c.if1.true))
+returns c = let a = c.before.before.args in few_left a.items.now a.offset (omega (arith, c.if1.true))
 
-sub-left : tie.Need-overflow-sub-left
-sub-left c = search rules
+sub_left : tie.Need-overflow-sub-left
+sub_left c = search rules
 
-returns-2 : tie.Need-returns-2
-returns-2 c = few-left _ _ c.if2.true
+returns_2 : tie.Need-returns-2
+returns_2 c = few_left _ _ c.if2.true
 
-add-size : tie.Need-overflow-add-size
-add-size c = search rules
+add_size : tie.Need-overflow-add-size
+add_size c = search rules
 
-shared-slice-read-size : tie.Need-shared-slice-read-size
-shared-slice-read-size c = search rules
+shared_slice_read_size : tie.Need-shared-slice-read-size
+shared_slice_read_size c = search rules
 
-size-requires : tie.Need-size-requires
-size-requires c κs = search rules
+size_requires : tie.Need-size-requires
+size_requires c κs = search rules
 
-returns-3 : tie.Need-returns-3
-returns-3 c = let w = c.before in low _ _ _ w.size.ensures.0 c.if3.true
+returns_3 : tie.Need-returns-3
+returns_3 c = let w = c.before in low _ _ _ w.size.ensures.0 c.if3.true
 
 add-if4 : tie.Need-overflow-add-if4
 add-if4 c = search rules
 
-returns-4 : tie.Need-returns-4
-returns-4 c = let w = c.before.before in over _ _ _ w.size.ensures.0 c.before.if3.false c.if4.true
+returns_4 : tie.Need-returns-4
+returns_4 c = let w = c.before.before in over _ _ _ w.size.ensures.0 c.before.if3.false c.if4.true
 
-returns-5 : tie.Need-returns-5
-returns-5 c =
+returns_5 : tie.Need-returns-5
+returns_5 c =
     let e4 = c.before in
     let w = e4.before.before in
     full _ _ _ w.size.ensures.0 e4.before.if3.false e4.if4.false c.if5.true
@@ -83,22 +83,22 @@ returns-7 c =
     let e4 = e5.before in
     let w = e4.before.before in
     let a = w.before.before.before.before.before.args in
-    by-identifier _ _ _ w.size.ensures.0 e4.before.if3.false e4.if4.false e5.if5.false e6.if6.false _ (c.is-cuei.ensures ∙ cuei-in a.items.now a.offset _ _ _ _ refl refl refl refl)
+    by_identifier _ _ _ w.size.ensures.0 e4.before.if3.false e4.if4.false e5.if5.false e6.if6.false _ (c.is-cuei.ensures ∙ cuei_in a.items.now a.offset _ _ _ _ refl refl refl refl)
 
-pub is-titled-spec : {M : Type 1} → statement M
-is-titled-spec =
+pub is_titled_spec : {M : Type 1} → statement M
+is_titled_spec =
     tie.close
     (tie.spec
     returns
-    sub-left
-    returns-2
-    add-size
-    shared-slice-read-size
-    size-requires
-    returns-3
+    sub_left
+    returns_2
+    add_size
+    shared_slice_read_size
+    size_requires
+    returns_3
     add-if4
-    returns-4
-    returns-5
+    returns_4
+    returns_5
     shared-slice-read-if6
     returns-6
     add-t6

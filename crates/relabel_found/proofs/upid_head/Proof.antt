@@ -1,5 +1,5 @@
 -- `relabel_found::upid_head`.
-use Rattle.relabel_found.proofs.Walks.{head-is}
+use Rattle.relabel_found.proofs.Walks.{head_is}
 use borrow.Author.Rules.{rules}
 use Rattle.relabel_found.proofs.upid_head.Statement.{statement}
 use Rattle.relabel_found.proofs.upid_head.Tie as tie
@@ -26,10 +26,10 @@ returns : tie.Need-returns
 returns c =
     let k = c.before in
     let b = k.before in
-    head-is _ _ _ _ _ b.before.byte.ensures b.byte2.ensures k.components-size.ensures.0 c.duration-size.ensures.0
+    head_is _ _ _ _ _ b.before.byte.ensures b.byte2.ensures k.components-size.ensures.0 c.duration-size.ensures.0
 
-pub upid-head-spec : {M : Type 1} → statement M
-upid-head-spec =
+pub upid_head_spec : {M : Type 1} → statement M
+upid_head_spec =
     tie.close
     (tie.spec
     byte-requires

@@ -46,12 +46,12 @@ loop-again c =
     let some : 0 < loop.loop.ahead = omega (arith, c.before.if1.false) in
     (omega (arith, loop.loop.invariant.0), onward start.args.upid.now start.args.i loop.loop.ahead loop.loop.at loop.loop.invariant.0 loop.loop.invariant.1 c.before.before.loop-test.true _ c.next-head.ensures some)
 
-returns-2 : tie.Need-returns-2 invariant-loop decreases-loop
-returns-2 c =
+returns_2 : tie.Need-returns-2 invariant-loop decreases-loop
+returns_2 c =
     let loop = c.before in
     let a = loop.before.before.args in
     none_left a.upid.now a.i loop.loop.ahead loop.loop.at loop.loop.invariant.0 loop.loop.invariant.1 c.loop-test.false
 
-pub head-of-spec : {M : Type 1} → statement M
-head-of-spec =
-    tie.close (tie.spec invariant-loop decreases-loop loop-holds returns next-head-requires sub-ahead loop-less loop-again returns-2)
+pub head_of_spec : {M : Type 1} → statement M
+head_of_spec =
+    tie.close (tie.spec invariant-loop decreases-loop loop-holds returns next-head-requires sub-ahead loop-less loop-again returns_2)

@@ -67,8 +67,8 @@ loop-again c =
 returns : tie.Need-returns invariant-loop decreases-loop
 returns c = search rules
 
-pub lines-spec : {M : Type 1} → statement M
-lines-spec =
+pub lines_spec : {M : Type 1} → statement M
+lines_spec =
     tie.close
     (tie.spec
     invariant-loop

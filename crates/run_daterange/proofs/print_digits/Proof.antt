@@ -35,8 +35,8 @@ loop-again c = omega arith
 returns : tie.Need-returns invariant-loop decreases-loop
 returns c = search rules
 
-pub print-digits-spec : {M : Type 1} → statement M
-print-digits-spec =
+pub print_digits_spec : {M : Type 1} → statement M
+print_digits_spec =
     tie.close
     (tie.spec
     invariant-loop

@@ -21,8 +21,8 @@ write-all-requires-2 c κs = search rules
 returns : tie.Need-returns
 returns c = search rules
 
-pub print-first-spec : {M : Type 1} → statement M
-print-first-spec =
+pub print_first_spec : {M : Type 1} → statement M
+print_first_spec =
     tie.close
     (tie.spec
     slice-aggregate-write-all

@@ -18,9 +18,9 @@ same_length c = search rules
 returns : tie.Need-returns
 returns c = search rules
 
-returns-2 : tie.Need-returns-2
-returns-2 c = search rules
+returns_2 : tie.Need-returns-2
+returns_2 c = search rules
 
-pub write-held-spec : {M : Type 1} → statement M
-write-held-spec =
-    tie.close (tie.spec slice-aggregate-write-one write-one-requires same_length returns returns-2)
+pub write_held_spec : {M : Type 1} → statement M
+write_held_spec =
+    tie.close (tie.spec slice-aggregate-write-one write-one-requires same_length returns returns_2)

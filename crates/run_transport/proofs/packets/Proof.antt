@@ -46,7 +46,7 @@ same_length c = search rules
 returns : tie.Need-returns invariant-loop decreases-loop
 returns c = search rules
 
-pub packets-spec : {M : Type 1} → statement M
-packets-spec =
+pub packets_spec : {M : Type 1} → statement M
+packets_spec =
     tie.close
     (tie.spec invariant-loop decreases-loop fresh-requires loop-holds end-of-requires sub-one part-one-start part-one-end one-requires loop-less loop-again same_length returns)

@@ -47,8 +47,8 @@ write-all-requires c κs = search rules
 returns : tie.Need-returns invariant-loop decreases-loop
 returns c = search rules
 
-pub print-section-spec : {M : Type 1} → statement M
-print-section-spec =
+pub print_section_spec : {M : Type 1} → statement M
+print_section_spec =
     tie.close
     (tie.spec
     invariant-loop

@@ -44,8 +44,8 @@ loop-again c = search rules
 same-length-2 : tie.Need-same-length-2 invariant-loop decreases-loop
 same-length-2 c = search rules
 
-returns-2 : tie.Need-returns-2 invariant-loop decreases-loop
-returns-2 c = search rules
+returns_2 : tie.Need-returns-2 invariant-loop decreases-loop
+returns_2 c = search rules
 
 pub take_all_spec : {M : Type 1} → statement M
 take_all_spec =
@@ -64,4 +64,4 @@ take_all_spec =
     loop-less
     loop-again
     same-length-2
-    returns-2)
+    returns_2)

@@ -33,13 +33,13 @@ part-result-start-2 c = search rules
 part-result-end-2 : tie.Need-slice-bounds-result-end-2
 part-result-end-2 c = search rules
 
-returns-2 : tie.Need-returns-2
-returns-2 c =
+returns_2 : tie.Need-returns-2
+returns_2 c =
     let a = c.before.before.args in
     take_all (length a.s.now - a.at) (drop a.at a.s.now) (omega (arith, length-drop a.at a.s.now))
 
-pub rest-spec : {M : Type 1} → statement M
-rest-spec =
+pub rest_spec : {M : Type 1} → statement M
+rest_spec =
     tie.close
     (tie.spec
     sub-result
@@ -49,4 +49,4 @@ rest-spec =
     sub-result-2
     part-result-start-2
     part-result-end-2
-    returns-2)
+    returns_2)

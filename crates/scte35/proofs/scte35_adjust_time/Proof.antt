@@ -15,5 +15,5 @@ flat-adjusted-requires c κs = search rules
 returns : tie.Need-returns
 returns c = rw (c.flat-adjusted.ensures, c.before.adjusted-time.ensures, c.before.before.time-from.ensures)
 
-pub scte35-adjust-time-spec : {M : Type 1} → statement M
-scte35-adjust-time-spec = tie.close (tie.spec time-from-requires adjusted-time-requires flat-adjusted-requires returns)
+pub scte35_adjust_time_spec : {M : Type 1} → statement M
+scte35_adjust_time_spec = tie.close (tie.spec time-from-requires adjusted-time-requires flat-adjusted-requires returns)

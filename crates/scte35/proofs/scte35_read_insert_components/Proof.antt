@@ -3,7 +3,7 @@ use mathlib.Core.Path.{◌≡◌, ap, ◌∙◌}
 use borrow.Author.Rules.{rules}
 use Rattle.command.specs.Command.{listed_of}
 use Rattle.command.specs.declared.components.ListedCommand.{ListedCommand}
-use Rattle.c_section.specs.FlatCommand.{flatInsertComponents}
+use Rattle.c_section.specs.FlatCommand.{flat_insert_components}
 use Rattle.scte35.proofs.scte35_read_insert_components.Statement.{statement}
 use Rattle.scte35.proofs.scte35_read_insert_components.Tie as tie
 
@@ -20,10 +20,10 @@ returns : tie.Need-returns
 unfolding listed_of
 returns c =
     let listed = c.before.before in
-    c.flat-insert-components.ensures ∙ ap (λ (l : ListedCommand). flatInsertComponents l.read l.components) (listed.read-components.ensures ∙ ap listed_of listed.before.rest.ensures)
+    c.flat-insert-components.ensures ∙ ap (λ (l : ListedCommand). flat_insert_components l.read l.components) (listed.read-components.ensures ∙ ap listed_of listed.before.rest.ensures)
 
-pub scte35-read-insert-components-spec : {M : Type 1} → statement M
-scte35-read-insert-components-spec =
+pub scte35_read_insert_components_spec : {M : Type 1} → statement M
+scte35_read_insert_components_spec =
     tie.close
     (tie.spec
     rest-requires

@@ -4,10 +4,10 @@ use mathlib.Core.List.{List}
 use mathlib.Core.Path.{◌≡◌, ap, sym, ◌∙◌}
 use native.Mathlib.Omega.{arith}
 use borrow.Author.Rules.{rules}
-use Rattle.c_section.specs.FlatSection.{flatSectionRead}
-use Rattle.c_section.proofs.FlatSections.{of-kind, flat-is}
-use Rattle.section.specs.Section.{sectionOf}
-use Rattle.section.proofs.Framing.{Framed, framed, is-refused}
+use Rattle.c_section.specs.FlatSection.{flat_section_read}
+use Rattle.c_section.proofs.FlatSections.{of_kind, flat_is}
+use Rattle.section.specs.Section.{section_of}
+use Rattle.section.proofs.Framing.{Framed, framed, is_refused}
 use Rattle.scte35.proofs.scte35_read_section.Statement.{statement}
 use Rattle.scte35.proofs.scte35_read_section.Tie as tie
 
@@ -31,8 +31,8 @@ returns c =
     let x = c.before.before in
     let r = x.before.before in
     c.no-section.ensures
-    ∙ ap flatSectionRead (is-refused _ _ (sym x.r.given.1 ∙ r.read-frame.ensures))
-    ∙ ap (λ (z : List ℕ). flatSectionRead (sectionOf z)) r.before.rest.ensures
+    ∙ ap flat_section_read (is_refused _ _ (sym x.r.given.1 ∙ r.read-frame.ensures))
+    ∙ ap (λ (z : List ℕ). flat_section_read (section_of z)) r.before.rest.ensures
 
 sub-read-flat-header : tie.Need-overflow-sub-read-flat-header
 sub-read-flat-header c =
@@ -55,8 +55,8 @@ part-read-flat-header-end c =
 read-flat-header-requires : tie.Need-read-flat-header-requires
 read-flat-header-requires c κs = search rules
 
-add-end : tie.Need-overflow-add-end
-add-end c =
+add_end : tie.Need-overflow-add-end
+add_end c =
     let v = c.before.before.before.before.before in
     let f = framed _ _ (sym v.f.given.1 ∙ v.before.before.read-frame.ensures) in
     omega (arith, f.size, f.short, f.fits)
@@ -97,17 +97,17 @@ enum_told c = search rules
 flat-parts-requires : tie.Need-flat-parts-requires
 flat-parts-requires c κs = search rules
 
-returns-2 : tie.Need-returns-2
-returns-2 c =
+returns_2 : tie.Need-returns-2
+returns_2 c =
     let e = c.before in
     let x = e.before.before.before in
     let y = x.before.before in
     let h = y.before.before.before.before.before in
     let v = h.before.before.before in
     let r = v.before.before in
-    of-kind _ _ _ _ _ c.flat-parts.ensures e.enum_told.given.1
-    ∙ flat-is _ _ (sym v.f.given.1 ∙ r.read-frame.ensures) _ h.read-flat-header.ensures _ (sym x.command.given.1 ∙ y.read-command-part.ensures)
-    ∙ ap (λ (z : List ℕ). flatSectionRead (sectionOf z)) r.before.rest.ensures
+    of_kind _ _ _ _ _ c.flat-parts.ensures e.enum_told.given.1
+    ∙ flat_is _ _ (sym v.f.given.1 ∙ r.read-frame.ensures) _ h.read-flat-header.ensures _ (sym x.command.given.1 ∙ y.read-command-part.ensures)
+    ∙ ap (λ (z : List ℕ). flat_section_read (section_of z)) r.before.rest.ensures
 
 enum-known-command-2 : tie.Need-enum-known-command-2
 enum-known-command-2 c = search rules
@@ -115,17 +115,17 @@ enum-known-command-2 c = search rules
 flat-parts-requires-2 : tie.Need-flat-parts-requires-2
 flat-parts-requires-2 c κs = search rules
 
-returns-3 : tie.Need-returns-3
-returns-3 c =
+returns_3 : tie.Need-returns-3
+returns_3 c =
     let e = c.before.before in
     let x = e.before.before.before in
     let y = x.before.before in
     let h = y.before.before.before.before.before in
     let v = h.before.before.before in
     let r = v.before.before in
-    of-kind _ _ _ _ _ c.flat-parts2.ensures e.command2.given.1
-    ∙ flat-is _ _ (sym v.f.given.1 ∙ r.read-frame.ensures) _ h.read-flat-header.ensures _ (sym x.command.given.1 ∙ y.read-command-part.ensures)
-    ∙ ap (λ (z : List ℕ). flatSectionRead (sectionOf z)) r.before.rest.ensures
+    of_kind _ _ _ _ _ c.flat-parts2.ensures e.command2.given.1
+    ∙ flat_is _ _ (sym v.f.given.1 ∙ r.read-frame.ensures) _ h.read-flat-header.ensures _ (sym x.command.given.1 ∙ y.read-command-part.ensures)
+    ∙ ap (λ (z : List ℕ). flat_section_read (section_of z)) r.before.rest.ensures
 
 enum-known-command-3 : tie.Need-enum-known-command-3
 enum-known-command-3 c = search rules
@@ -133,17 +133,17 @@ enum-known-command-3 c = search rules
 flat-parts-requires-3 : tie.Need-flat-parts-requires-3
 flat-parts-requires-3 c κs = search rules
 
-returns-4 : tie.Need-returns-4
-returns-4 c =
+returns_4 : tie.Need-returns-4
+returns_4 c =
     let e = c.before.before in
     let x = e.before.before.before in
     let y = x.before.before in
     let h = y.before.before.before.before.before in
     let v = h.before.before.before in
     let r = v.before.before in
-    of-kind _ _ _ _ _ c.flat-parts3.ensures e.command3.given.1
-    ∙ flat-is _ _ (sym v.f.given.1 ∙ r.read-frame.ensures) _ h.read-flat-header.ensures _ (sym x.command.given.1 ∙ y.read-command-part.ensures)
-    ∙ ap (λ (z : List ℕ). flatSectionRead (sectionOf z)) r.before.rest.ensures
+    of_kind _ _ _ _ _ c.flat-parts3.ensures e.command3.given.1
+    ∙ flat_is _ _ (sym v.f.given.1 ∙ r.read-frame.ensures) _ h.read-flat-header.ensures _ (sym x.command.given.1 ∙ y.read-command-part.ensures)
+    ∙ ap (λ (z : List ℕ). flat_section_read (section_of z)) r.before.rest.ensures
 
 enum-told-2 : tie.Need-enum-told-2
 enum-told-2 c = search rules
@@ -151,17 +151,17 @@ enum-told-2 c = search rules
 flat-parts-requires-4 : tie.Need-flat-parts-requires-4
 flat-parts-requires-4 c κs = search rules
 
-returns-5 : tie.Need-returns-5
-returns-5 c =
+returns_5 : tie.Need-returns-5
+returns_5 c =
     let e = c.before in
     let x = e.before.before.before in
     let y = x.before.before in
     let h = y.before.before.before.before.before in
     let v = h.before.before.before in
     let r = v.before.before in
-    of-kind _ _ _ _ _ c.flat-parts4.ensures e.enum-told2.given.1
-    ∙ flat-is _ _ (sym v.f.given.1 ∙ r.read-frame.ensures) _ h.read-flat-header.ensures _ (sym x.command.given.1 ∙ y.read-command-part.ensures)
-    ∙ ap (λ (z : List ℕ). flatSectionRead (sectionOf z)) r.before.rest.ensures
+    of_kind _ _ _ _ _ c.flat-parts4.ensures e.enum-told2.given.1
+    ∙ flat_is _ _ (sym v.f.given.1 ∙ r.read-frame.ensures) _ h.read-flat-header.ensures _ (sym x.command.given.1 ∙ y.read-command-part.ensures)
+    ∙ ap (λ (z : List ℕ). flat_section_read (section_of z)) r.before.rest.ensures
 
 enum-known-command-4 : tie.Need-enum-known-command-4
 enum-known-command-4 c = search rules
@@ -177,9 +177,9 @@ returns-6 c =
     let h = y.before.before.before.before.before in
     let v = h.before.before.before in
     let r = v.before.before in
-    of-kind _ _ _ _ _ c.flat-parts5.ensures e.command4.given.1
-    ∙ flat-is _ _ (sym v.f.given.1 ∙ r.read-frame.ensures) _ h.read-flat-header.ensures _ (sym x.command.given.1 ∙ y.read-command-part.ensures)
-    ∙ ap (λ (z : List ℕ). flatSectionRead (sectionOf z)) r.before.rest.ensures
+    of_kind _ _ _ _ _ c.flat-parts5.ensures e.command4.given.1
+    ∙ flat_is _ _ (sym v.f.given.1 ∙ r.read-frame.ensures) _ h.read-flat-header.ensures _ (sym x.command.given.1 ∙ y.read-command-part.ensures)
+    ∙ ap (λ (z : List ℕ). flat_section_read (section_of z)) r.before.rest.ensures
 
 enum-told-3 : tie.Need-enum-told-3
 enum-told-3 c = search rules
@@ -195,8 +195,8 @@ returns-7 c =
     let v = h.before.before.before in
     let r = v.before.before in
     c.no-section2.ensures
-    ∙ flat-is _ _ (sym v.f.given.1 ∙ r.read-frame.ensures) _ h.read-flat-header.ensures _ (sym x.enum-told3.given.1 ∙ y.read-command-part.ensures)
-    ∙ ap (λ (z : List ℕ). flatSectionRead (sectionOf z)) r.before.rest.ensures
+    ∙ flat_is _ _ (sym v.f.given.1 ∙ r.read-frame.ensures) _ h.read-flat-header.ensures _ (sym x.enum-told3.given.1 ∙ y.read-command-part.ensures)
+    ∙ ap (λ (z : List ℕ). flat_section_read (section_of z)) r.before.rest.ensures
 
 enum-told-4 : tie.Need-enum-told-4
 enum-told-4 c = search rules
@@ -212,11 +212,11 @@ returns-8 c =
     let v = h.before.before.before in
     let r = v.before.before in
     c.no-section3.ensures
-    ∙ flat-is _ _ (sym v.f.given.1 ∙ r.read-frame.ensures) _ h.read-flat-header.ensures _ (sym x.enum-told4.given.1 ∙ y.read-command-part.ensures)
-    ∙ ap (λ (z : List ℕ). flatSectionRead (sectionOf z)) r.before.rest.ensures
+    ∙ flat_is _ _ (sym v.f.given.1 ∙ r.read-frame.ensures) _ h.read-flat-header.ensures _ (sym x.enum-told4.given.1 ∙ y.read-command-part.ensures)
+    ∙ ap (λ (z : List ℕ). flat_section_read (section_of z)) r.before.rest.ensures
 
-pub scte35-read-section-spec : {M : Type 1} → statement M
-scte35-read-section-spec =
+pub scte35_read_section_spec : {M : Type 1} → statement M
+scte35_read_section_spec =
     tie.close
     (tie.spec
     rest-requires
@@ -229,7 +229,7 @@ scte35-read-section-spec =
     part-read-flat-header-start
     part-read-flat-header-end
     read-flat-header-requires
-    add-end
+    add_end
     shared-slice-read-read-command-part
     sub-read-command-part
     part-read-command-part-start
@@ -238,16 +238,16 @@ scte35-read-section-spec =
     enum-known-command
     enum_told
     flat-parts-requires
-    returns-2
+    returns_2
     enum-known-command-2
     flat-parts-requires-2
-    returns-3
+    returns_3
     enum-known-command-3
     flat-parts-requires-3
-    returns-4
+    returns_4
     enum-told-2
     flat-parts-requires-4
-    returns-5
+    returns_5
     enum-known-command-4
     flat-parts-requires-5
     returns-6

@@ -6,11 +6,11 @@ use Rattle.scte35.proofs.time_from.Tie as tie
 returns : tie.Need-returns
 returns c = rw (eq-eqb _ _ c.if1.true)
 
-returns-2 : tie.Need-returns-2
-returns-2 c = rw (ne_eqb _ _ c.before.if1.false, lt-ltb _ _ c.if2.true)
+returns_2 : tie.Need-returns-2
+returns_2 c = rw (ne_eqb _ _ c.before.if1.false, lt-ltb _ _ c.if2.true)
 
-returns-3 : tie.Need-returns-3
-returns-3 c = rw (ne_eqb _ _ c.before.if1.false, le-ltb _ _ c.if2.false)
+returns_3 : tie.Need-returns-3
+returns_3 c = rw (ne_eqb _ _ c.before.if1.false, le-ltb _ _ c.if2.false)
 
-pub time-from-spec : {M : Type 1} → statement M
-time-from-spec = tie.close (tie.spec returns returns-2 returns-3)
+pub time_from_spec : {M : Type 1} → statement M
+time_from_spec = tie.close (tie.spec returns returns_2 returns_3)

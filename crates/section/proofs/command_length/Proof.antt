@@ -30,8 +30,8 @@ returns c =
     let s = st.args.section.now in
     (size_of s _ _ st.requires w.wide.ensures.0 w.wide.ensures.1 c.wide2.ensures.0 c.wide2.ensures.1, omega (arith, w.wide.ensures.1, c.wide2.ensures.1))
 
-pub command-length-spec : {M : Type 1} → statement M
-command-length-spec =
+pub command_length_spec : {M : Type 1} → statement M
+command_length_spec =
     tie.close
     (tie.spec
     shared-slice-read-wide

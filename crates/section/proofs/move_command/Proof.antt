@@ -2,7 +2,7 @@
 use Prim.Native.Nat.{◌≤◌}
 use native.Mathlib.Omega.{arith}
 use Rattle.section.specs.Section.{moved}
-use Rattle.section.specs.Private.{viewStart}
+use Rattle.section.specs.Private.{view_start}
 use borrow.Author.Rules.{rules}
 use Rattle.section.proofs.move_command.Statement.{statement}
 use Rattle.section.proofs.move_command.Tie as tie
@@ -27,7 +27,7 @@ add-t8 c =
     let v = c.before in
     let p = v.before.before in
     let a = p.before.before.args in
-    let h : viewStart a.c ≤ 4 = p.before.before.requires.0 in
+    let h : view_start a.c ≤ 4 = p.before.before.requires.0 in
     let z = rw p.c3.given.1 at h in
     omega arith
 
@@ -35,24 +35,24 @@ returns : tie.Need-returns
 unfolding moved
 returns c = rw c.enum_told.given.1
 
-returns-2 : tie.Need-returns-2
+returns_2 : tie.Need-returns-2
 unfolding moved
-returns-2 c = rw c.before.c.given.1
+returns_2 c = rw c.before.c.given.1
 
-returns-3 : tie.Need-returns-3
+returns_3 : tie.Need-returns-3
 unfolding moved
-returns-3 c = rw c.before.c2.given.1
+returns_3 c = rw c.before.c2.given.1
 
-returns-4 : tie.Need-returns-4
+returns_4 : tie.Need-returns-4
 unfolding moved
-returns-4 c = rw c.enum-told2.given.1
+returns_4 c = rw c.enum-told2.given.1
 
-returns-5 : tie.Need-returns-5
+returns_5 : tie.Need-returns-5
 unfolding moved
-returns-5 c = let p = c.before.before.before in rw p.c3.given.1
+returns_5 c = let p = c.before.before.before in rw p.c3.given.1
 
-pub move-command-spec : {M : Type 1} → statement M
-move-command-spec =
+pub move_command_spec : {M : Type 1} → statement M
+move_command_spec =
     tie.close
     (tie.spec
     enum_told
@@ -62,7 +62,7 @@ move-command-spec =
     enum-known-c-3
     add-t8
     returns
-    returns-2
-    returns-3
-    returns-4
-    returns-5)
+    returns_2
+    returns_3
+    returns_4
+    returns_5)

@@ -36,20 +36,20 @@ view-requires-5 c κs = search rules
 returns : tie.Need-returns
 returns c = rw c.before.before.before.c.given.1 c.view.ensures
 
-returns-2 : tie.Need-returns-2
-returns-2 c = rw c.before.enum_told.given.1 c.view2.ensures
+returns_2 : tie.Need-returns-2
+returns_2 c = rw c.before.enum_told.given.1 c.view2.ensures
 
-returns-3 : tie.Need-returns-3
-returns-3 c = rw c.before.enum-told2.given.1 c.view3.ensures
+returns_3 : tie.Need-returns-3
+returns_3 c = rw c.before.enum-told2.given.1 c.view3.ensures
 
-returns-4 : tie.Need-returns-4
-returns-4 c = rw c.before.enum-told3.given.1 c.view4.ensures
+returns_4 : tie.Need-returns-4
+returns_4 c = rw c.before.enum-told3.given.1 c.view4.ensures
 
-returns-5 : tie.Need-returns-5
-returns-5 c = rw c.before.enum-told4.given.1 c.view5.ensures
+returns_5 : tie.Need-returns-5
+returns_5 c = rw c.before.enum-told4.given.1 c.view5.ensures
 
-pub private-bytes-of-spec : {M : Type 1} → statement M
-private-bytes-of-spec =
+pub private_bytes_of_spec : {M : Type 1} → statement M
+private_bytes_of_spec =
     tie.close
     (tie.spec
     enum-known-c
@@ -63,7 +63,7 @@ private-bytes-of-spec =
     enum-told-4
     view-requires-5
     returns
-    returns-2
-    returns-3
-    returns-4
-    returns-5)
+    returns_2
+    returns_3
+    returns_4
+    returns_5)

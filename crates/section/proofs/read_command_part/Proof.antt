@@ -1,7 +1,7 @@
 -- `section::read_command_part`, by what is read of the command.
 use mathlib.Core.Path.{◌≡◌, sym, ◌∙◌}
 use native.Mathlib.Omega.{arith}
-use Rattle.section.proofs.Framing.{within-four, is-moved, unknown-moved, malformed-moved}
+use Rattle.section.proofs.Framing.{within_four, is_moved, unknown_moved, malformed_moved}
 use borrow.Author.Rules.{rules}
 use Rattle.section.proofs.read_command_part.Statement.{statement}
 use Rattle.section.proofs.read_command_part.Tie as tie
@@ -16,7 +16,7 @@ move-command-requires : tie.Need-move-command-requires
 move-command-requires c κs =
     let d = c.before in
     let r = d.before.before in
-    (within-four _ _ _ (sym r.read-command.ensures ∙ d.c.given.1), omega arith)
+    (within_four _ _ _ (sym r.read-command.ensures ∙ d.c.given.1), omega arith)
 
 enum_told : tie.Need-enum-told
 enum_told c = search rules
@@ -28,16 +28,16 @@ returns : tie.Need-returns
 returns c =
     let d = c.before.before in
     let r = d.before.before in
-    is-moved _ _ _ (sym r.read-command.ensures ∙ d.c.given.1) c.move-command.ensures
+    is_moved _ _ _ (sym r.read-command.ensures ∙ d.c.given.1) c.move-command.ensures
 
-returns-2 : tie.Need-returns-2
-returns-2 c = unknown-moved _ (sym c.before.before.read-command.ensures ∙ c.enum_told.given.1)
+returns_2 : tie.Need-returns-2
+returns_2 c = unknown_moved _ (sym c.before.before.read-command.ensures ∙ c.enum_told.given.1)
 
-returns-3 : tie.Need-returns-3
-returns-3 c = malformed-moved _ (sym c.before.before.read-command.ensures ∙ c.enum-told2.given.1)
+returns_3 : tie.Need-returns-3
+returns_3 c = malformed_moved _ (sym c.before.before.read-command.ensures ∙ c.enum-told2.given.1)
 
-pub read-command-part-spec : {M : Type 1} → statement M
-read-command-part-spec =
+pub read_command_part_spec : {M : Type 1} → statement M
+read_command_part_spec =
     tie.close
     (tie.spec
     read-command-requires
@@ -46,5 +46,5 @@ read-command-part-spec =
     enum_told
     enum-told-2
     returns
-    returns-2
-    returns-3)
+    returns_2
+    returns_3)

@@ -2,7 +2,7 @@
 use mathlib.Core.Path.{◌≡◌, ap, sym, ◌∙◌}
 use native.Mathlib.Omega.{arith}
 use Rattle.section.specs.Section.{accepted}
-use Rattle.section.proofs.Framing.{Framed, framed, is-accepted, is-refused}
+use Rattle.section.proofs.Framing.{Framed, framed, is_accepted, is_refused}
 use borrow.Author.Rules.{rules}
 use Rattle.section.proofs.read_section.Statement.{statement}
 use Rattle.section.proofs.read_section.Tie as tie
@@ -27,20 +27,20 @@ returns c =
     let r = p.before.before in
     let s = r.before.before.args.section.now in
     let laid = sym p.frame.given.1 ∙ r.read-frame.ensures in
-    is-accepted s _ _ laid (c.read-parts.ensures ∙ ap (accepted _ _) (sym (framed s _ laid).place))
+    is_accepted s _ _ laid (c.read-parts.ensures ∙ ap (accepted _ _) (sym (framed s _ laid).place))
 
 enum-known-r : tie.Need-enum-known-r
 enum-known-r c = search rules
 
-returns-2 : tie.Need-returns-2
-returns-2 c =
+returns_2 : tie.Need-returns-2
+returns_2 c =
     let p = c.before in
     let r = p.before.before in
     let s = r.before.before.args.section.now in
-    is-refused s _ (sym p.r.given.1 ∙ r.read-frame.ensures)
+    is_refused s _ (sym p.r.given.1 ∙ r.read-frame.ensures)
 
-pub read-section-spec : {M : Type 1} → statement M
-read-section-spec =
+pub read_section_spec : {M : Type 1} → statement M
+read_section_spec =
     tie.close
     (tie.spec
     read-frame-requires
@@ -48,4 +48,4 @@ read-section-spec =
     read-parts-requires
     returns
     enum-known-r
-    returns-2)
+    returns_2)

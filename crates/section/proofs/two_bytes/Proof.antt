@@ -33,8 +33,8 @@ returns c =
     let a = st.args in
     (number_of a.section.now a.at _ _ st.requires w.wide.ensures.0 w.wide.ensures.1 c.wide2.ensures.0 c.wide2.ensures.1, omega (arith, w.wide.ensures.1, c.wide2.ensures.1))
 
-pub two-bytes-spec : {M : Type 1} → statement M
-two-bytes-spec =
+pub two_bytes_spec : {M : Type 1} → statement M
+two_bytes_spec =
     tie.close
     (tie.spec
     shared-slice-read-wide

@@ -1,6 +1,6 @@
 -- `section_writer::answer_section`, test by test.
 use native.Mathlib.Omega.{arith}
-use Rattle.section_writer.proofs.Answers.{refused-for, short-for, wrote-for, short-enough}
+use Rattle.section_writer.proofs.Answers.{refused_for, short_for, wrote_for, short_enough}
 use borrow.Author.Rules.{rules}
 use Rattle.section_writer.proofs.answer_section.Statement.{statement}
 use Rattle.section_writer.proofs.answer_section.Tie as tie
@@ -16,7 +16,7 @@ returns c =
     let r = c.before in
     let l = r.before in
     let a = l.before.before.args in
-    refused-for a.header a.decreases a.descriptors.now a.room _ _ l.is-canonical-loop.ensures r.refusal-of.ensures c.if1.true
+    refused_for a.header a.decreases a.descriptors.now a.room _ _ l.is-canonical-loop.ensures r.refusal-of.ensures c.if1.true
 
 add-length : tie.Need-overflow-add-length
 add-length c =
@@ -24,7 +24,7 @@ add-length c =
     let r = i.before in
     let l = r.before in
     let a = l.before.before.args in
-    omega (arith, short-enough a.header a.decreases a.descriptors.now a.room _ _ l.is-canonical-loop.ensures r.refusal-of.ensures i.if1.false)
+    omega (arith, short_enough a.header a.decreases a.descriptors.now a.room _ _ l.is-canonical-loop.ensures r.refusal-of.ensures i.if1.false)
 
 add-length-2 : tie.Need-overflow-add-length-2
 add-length-2 c =
@@ -32,23 +32,23 @@ add-length-2 c =
     let r = i.before in
     let l = r.before in
     let a = l.before.before.args in
-    omega (arith, short-enough a.header a.decreases a.descriptors.now a.room _ _ l.is-canonical-loop.ensures r.refusal-of.ensures i.if1.false)
+    omega (arith, short_enough a.header a.decreases a.descriptors.now a.room _ _ l.is-canonical-loop.ensures r.refusal-of.ensures i.if1.false)
 
-returns-2 : tie.Need-returns-2
-returns-2 c =
+returns_2 : tie.Need-returns-2
+returns_2 c =
     let i = c.before.before in
     let r = i.before in
     let l = r.before in
     let a = l.before.before.args in
-    short-for a.header a.decreases a.descriptors.now a.room _ _ l.is-canonical-loop.ensures r.refusal-of.ensures i.if1.false c.if2.true
+    short_for a.header a.decreases a.descriptors.now a.room _ _ l.is-canonical-loop.ensures r.refusal-of.ensures i.if1.false c.if2.true
 
-returns-3 : tie.Need-returns-3
-returns-3 c =
+returns_3 : tie.Need-returns-3
+returns_3 c =
     let i = c.before.before in
     let r = i.before in
     let l = r.before in
     let a = l.before.before.args in
-    wrote-for a.header a.decreases a.descriptors.now a.room _ _ l.is-canonical-loop.ensures r.refusal-of.ensures i.if1.false c.if2.false
+    wrote_for a.header a.decreases a.descriptors.now a.room _ _ l.is-canonical-loop.ensures r.refusal-of.ensures i.if1.false c.if2.false
 
-pub answer-section-spec : {M : Type 1} → statement M
-answer-section-spec = tie.close (tie.spec is-canonical-loop-requires refusal-of-requires returns add-length add-length-2 returns-2 returns-3)
+pub answer_section_spec : {M : Type 1} → statement M
+answer_section_spec = tie.close (tie.spec is-canonical-loop-requires refusal-of-requires returns add-length add-length-2 returns_2 returns_3)

@@ -1,6 +1,6 @@
 -- `section_writer::first_number`: no sum wraps, since each number is below 2 to the bits of its field.
 use native.Mathlib.Omega.{arith}
-use Rattle.section_writer.specs.Private.{firstNumber}
+use Rattle.section_writer.specs.Private.{first_number}
 use Rattle.section_writer.proofs.Heads.{Fitting, fitting}
 use borrow.Author.Rules.{rules}
 use Rattle.section_writer.proofs.first_number.Statement.{statement}
@@ -28,11 +28,11 @@ add-result-2 : tie.Need-overflow-add-result-2
 add-result-2 c = omega (arith, (fitting c.before.before.before.before.args.header c.before.before.before.before.requires).adjustment)
 
 returns : tie.Need-returns
-unfolding firstNumber
+unfolding first_number
 returns c = rw (c.before.before.before.wide.ensures.0, c.before.wide2.ensures.0, c.before.before.id.ensures)
 
-pub first-number-spec : {M : Type 1} → statement M
-first-number-spec =
+pub first_number_spec : {M : Type 1} → statement M
+first_number_spec =
     tie.close
     (tie.spec
     wide-requires

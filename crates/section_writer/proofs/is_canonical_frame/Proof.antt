@@ -1,7 +1,7 @@
 -- `section_writer::is_canonical_frame`: a section that has no frame is not accepted.
 use mathlib.Core.Path.{◌≡◌, sym, ◌∙◌}
-use Rattle.section.proofs.Framing.{is-refused}
-use Rattle.section_writer.proofs.Forms.{not-accepted}
+use Rattle.section.proofs.Framing.{is_refused}
+use Rattle.section_writer.proofs.Forms.{not_accepted}
 use borrow.Author.Rules.{rules}
 use Rattle.section_writer.proofs.is_canonical_frame.Statement.{statement}
 use Rattle.section_writer.proofs.is_canonical_frame.Tie as tie
@@ -21,11 +21,11 @@ returns c = c.is-canonical-around.ensures
 enum_told : tie.Need-enum-told
 enum_told c = search rules
 
-returns-2 : tie.Need-returns-2
-returns-2 c =
+returns_2 : tie.Need-returns-2
+returns_2 c =
     let r = c.before.before in
     let s = r.before.before.args.section.now in
-    not-accepted s _ (sym (is-refused s _ (sym c.enum_told.given.1 ∙ r.read-frame.ensures)))
+    not_accepted s _ (sym (is_refused s _ (sym c.enum_told.given.1 ∙ r.read-frame.ensures)))
 
-pub is-canonical-frame-spec : {M : Type 1} → statement M
-is-canonical-frame-spec = tie.close (tie.spec read-frame-requires enum-known-frame is-canonical-around-requires returns enum_told returns-2)
+pub is_canonical_frame_spec : {M : Type 1} → statement M
+is_canonical_frame_spec = tie.close (tie.spec read-frame-requires enum-known-frame is-canonical-around-requires returns enum_told returns_2)

@@ -4,13 +4,13 @@ use mathlib.Core.List.{List}
 use mathlib.Core.Path.{◌≡◌, ap, sym, ◌∙◌}
 use lib.ListN.{get_or}
 use native.Mathlib.Omega.{arith}
-use Rattle.canonical_form.specs.Command.{canonicalCommand}
-use Rattle.canonical_form.specs.Descriptor.{canonicalLoop}
+use Rattle.canonical_form.specs.Command.{canonical_command}
+use Rattle.canonical_form.specs.Descriptor.{canonical_loop}
 use Rattle.section.specs.Section.{frame_of}
 use Rattle.section.specs.declared.FrameRead.{FrameRead}
-use Rattle.section.proofs.Framing.{Framed, framed, is-refused}
-use Rattle.section_writer.proofs.Forms.{not-accepted}
-use Rattle.section_writer.proofs.Sections.{unframed, no-frame, no-command, is-section}
+use Rattle.section.proofs.Framing.{Framed, framed, is_refused}
+use Rattle.section_writer.proofs.Forms.{not_accepted}
+use Rattle.section_writer.proofs.Sections.{unframed, no_frame, no_command_lem, is_section}
 use borrow.Author.Rules.{rules}
 use Rattle.section_writer.proofs.is_canonical_section.Statement.{statement}
 use Rattle.section_writer.proofs.is_canonical_section.Tie as tie
@@ -35,13 +35,13 @@ returns : tie.Need-returns
 returns c =
     let r = c.before.before in
     let s = r.before.before.args.section.now in
-    unframed s (not-accepted s _ (sym (is-refused s _ (sym c.enum_told.given.1 ∙ r.read-frame.ensures))))
+    unframed s (not_accepted s _ (sym (is_refused s _ (sym c.enum_told.given.1 ∙ r.read-frame.ensures))))
 
 is-canonical-around-requires : tie.Need-is-canonical-around-requires
 is-canonical-around-requires c κs = laid c.before
 
-returns-2 : tie.Need-returns-2
-returns-2 c = no-frame _ _ c.before.is-canonical-around.ensures c.if1.true
+returns_2 : tie.Need-returns-2
+returns_2 c = no_frame _ _ c.before.is-canonical-around.ensures c.if1.true
 
 shared-slice-read-is-canonical-command : tie.Need-shared-slice-read-is-canonical-command
 shared-slice-read-is-canonical-command c = let v = c.before.before.before.before.before in omega (arith, (framed (bytes v) _ (laid v)).long)
@@ -52,14 +52,14 @@ view-requires c κs = search rules
 is-canonical-command-requires : tie.Need-is-canonical-command-requires
 is-canonical-command-requires c κs = search rules
 
-returns-3 : tie.Need-returns-3
-returns-3 c =
+returns_3 : tie.Need-returns-3
+returns_3 c =
     let k = c.before in
     let w = k.before in
     let i₁ = w.before.before.before in
     let a = i₁.before in
     let v = a.before.before in
-    no-command (bytes v) _ a.is-canonical-around.ensures i₁.if1.false _ (laid v) _ (k.is-canonical-command.ensures ∙ ap (canonicalCommand (get_or (bytes v) 13 0)) w.view.ensures) c.if2.true
+    no_command_lem (bytes v) _ a.is-canonical-around.ensures i₁.if1.false _ (laid v) _ (k.is-canonical-command.ensures ∙ ap (canonical_command (get_or (bytes v) 13 0)) w.view.ensures) c.if2.true
 
 view-requires-2 : tie.Need-view-requires-2
 view-requires-2 c κs = search rules
@@ -67,8 +67,8 @@ view-requires-2 c κs = search rules
 is-canonical-loop-requires : tie.Need-is-canonical-loop-requires
 is-canonical-loop-requires c κs = search rules
 
-returns-4 : tie.Need-returns-4
-returns-4 c =
+returns_4 : tie.Need-returns-4
+returns_4 c =
     let w₂ = c.before in
     let i₂ = w₂.before.before in
     let k = i₂.before in
@@ -76,11 +76,11 @@ returns-4 c =
     let i₁ = w₁.before.before.before in
     let a = i₁.before in
     let v = a.before.before in
-    is-section (bytes v) _ a.is-canonical-around.ensures i₁.if1.false _ (laid v) _ (k.is-canonical-command.ensures ∙ ap (canonicalCommand (get_or (bytes v) 13 0)) w₁.view.ensures) _ i₂.if2.false
-    (c.is-canonical-loop.ensures ∙ ap canonicalLoop w₂.view2.ensures)
+    is_section (bytes v) _ a.is-canonical-around.ensures i₁.if1.false _ (laid v) _ (k.is-canonical-command.ensures ∙ ap (canonical_command (get_or (bytes v) 13 0)) w₁.view.ensures) _ i₂.if2.false
+    (c.is-canonical-loop.ensures ∙ ap canonical_loop w₂.view2.ensures)
 
-pub is-canonical-section-spec : {M : Type 1} → statement M
-is-canonical-section-spec =
+pub is_canonical_section_spec : {M : Type 1} → statement M
+is_canonical_section_spec =
     tie.close
     (tie.spec
     read-frame-requires
@@ -88,11 +88,11 @@ is-canonical-section-spec =
     enum_told
     returns
     is-canonical-around-requires
-    returns-2
+    returns_2
     shared-slice-read-is-canonical-command
     view-requires
     is-canonical-command-requires
-    returns-3
+    returns_3
     view-requires-2
     is-canonical-loop-requires
-    returns-4)
+    returns_4)

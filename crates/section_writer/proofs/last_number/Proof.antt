@@ -1,5 +1,5 @@
 -- `section_writer::last_number`: no sum wraps, since each number is below 2 to the bits of its field.
-use Rattle.section_writer.specs.Private.{lastNumber}
+use Rattle.section_writer.specs.Private.{last_number}
 use borrow.Author.Rules.{rules}
 use Rattle.section_writer.proofs.last_number.Statement.{statement}
 use Rattle.section_writer.proofs.last_number.Tie as tie
@@ -32,11 +32,11 @@ add-result-3 : tie.Need-overflow-add-result-3
 add-result-3 c = search rules
 
 returns : tie.Need-returns
-unfolding lastNumber
+unfolding last_number
 returns c = rw (c.before.before.wide.ensures.0, c.wide2.ensures.0)
 
-pub last-number-spec : {M : Type 1} → statement M
-last-number-spec =
+pub last_number_spec : {M : Type 1} → statement M
+last_number_spec =
     tie.close
     (tie.spec
     wide-requires

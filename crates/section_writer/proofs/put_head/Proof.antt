@@ -1,6 +1,6 @@
 -- `section_writer::put_head`: three numbers, one behind the other.
 use native.Mathlib.Omega.{arith}
-use Rattle.section_writer.proofs.Stored.{head-stored}
+use Rattle.section_writer.proofs.Stored.{head_stored}
 use borrow.Author.Rules.{rules}
 use Rattle.section_writer.proofs.put_head.Statement.{statement}
 use Rattle.section_writer.proofs.put_head.Tie as tie
@@ -41,11 +41,11 @@ returns c =
     let p₁ = f.before.before.before.before in
     let st = p₁.before.before.before in
     let a = st.args in
-    head-stored a.out.now _ _ _ a.header a.command-type a.size a.extent _ _ p₁.put-number.ensures p₂.put-number2.ensures p₃.put-number3.ensures
+    head_stored a.out.now _ _ _ a.header a.command-type a.size a.extent _ _ p₁.put_number.ensures p₂.put-number2.ensures p₃.put-number3.ensures
     f.first-number.ensures b.last-number.ensures st.requires.0 st.requires.1 (omega arith) st.requires.2 st.requires.3
 
-pub put-head-spec : {M : Type 1} → statement M
-put-head-spec =
+pub put_head_spec : {M : Type 1} → statement M
+put_head_spec =
     tie.close
     (tie.spec
     add-put-number

@@ -1,6 +1,6 @@
 -- `section_writer::put_tail`: the loop's length, the loop, and the CRC of all that stands before it.
 use native.Mathlib.Omega.{arith}
-use Rattle.section_writer.proofs.Stored.{tail-stored}
+use Rattle.section_writer.proofs.Stored.{tail_stored}
 use borrow.Author.Rules.{rules}
 use Rattle.section_writer.proofs.put_tail.Statement.{statement}
 use Rattle.section_writer.proofs.put_tail.Tie as tie
@@ -14,8 +14,8 @@ add-put-bytes c = search rules
 put-bytes-requires : tie.Need-put-bytes-requires
 put-bytes-requires c κs = search rules
 
-add-end : tie.Need-overflow-add-end
-add-end c = search rules
+add_end : tie.Need-overflow-add-end
+add_end c = search rules
 
 add-end-2 : tie.Need-overflow-add-end-2
 add-end-2 c = search rules
@@ -49,16 +49,16 @@ returns c =
     let n₁ = b.before.before.before.before in
     let st = n₁.before.before.before.before in
     let a = st.args in
-    tail-stored a.out.now _ _ _ a.descriptors.now a.at _ n₁.put-number.ensures b.put-bytes.ensures k.crc32.ensures n₂.put-number2.ensures (omega arith)
+    tail_stored a.out.now _ _ _ a.descriptors.now a.at _ n₁.put_number.ensures b.put_bytes.ensures k.crc32.ensures n₂.put-number2.ensures (omega arith)
 
-pub put-tail-spec : {M : Type 1} → statement M
-put-tail-spec =
+pub put_tail_spec : {M : Type 1} → statement M
+put_tail_spec =
     tie.close
     (tie.spec
     put-number-requires
     add-put-bytes
     put-bytes-requires
-    add-end
+    add_end
     add-end-2
     sub-crc32
     part-crc32-start

@@ -2,7 +2,7 @@
 use mathlib.Core.Path.{sym, ◌∙◌}
 use native.Mathlib.Omega.{arith}
 use borrow.Author.Tests.{not-true, not-false}
-use Rattle.section_writer.proofs.Refusals.{outside, command-wide, header-wide, command-unwritable, header-unwritable, too_long, uncanonical, no-refusal}
+use Rattle.section_writer.proofs.Refusals.{outside, command_wide, header_wide, command_unwritable, header_unwritable, too_long, uncanonical, no_refusal}
 use borrow.Author.Rules.{rules}
 use Rattle.section_writer.proofs.refusal_of.Statement.{statement}
 use Rattle.section_writer.proofs.refusal_of.Tie as tie
@@ -13,40 +13,40 @@ returns c =
     let a = i₁.before.args in
     outside a.header a.r a.size a.extent a.canonical i₁.if1.true
 
-returns-2 : tie.Need-returns-2
-returns-2 c =
+returns_2 : tie.Need-returns-2
+returns_2 c =
     let i₂ = c in
     let i₁ = i₂.before in
     let a = i₁.before.args in
-    command-wide a.header a.r a.size a.extent a.canonical i₂.if2.true
+    command_wide a.header a.r a.size a.extent a.canonical i₂.if2.true
 
 numbers-fit-requires : tie.Need-numbers-fit-requires
 numbers-fit-requires c κs = search rules
 
-returns-3 : tie.Need-returns-3
-returns-3 c =
+returns_3 : tie.Need-returns-3
+returns_3 c =
     let i₃ = c in
     let n = i₃.before in
     let i₂ = n.before in
     let i₁ = i₂.before in
     let a = i₁.before.args in
-    header-wide a.header a.r a.size a.extent a.canonical i₁.if1.false i₂.if2.false (sym (not-true _ i₃.if3.true) ∙ n.numbers_fit.ensures)
+    header_wide a.header a.r a.size a.extent a.canonical i₁.if1.false i₂.if2.false (sym (not-true _ i₃.if3.true) ∙ n.numbers_fit.ensures)
 
-returns-4 : tie.Need-returns-4
-returns-4 c =
+returns_4 : tie.Need-returns-4
+returns_4 c =
     let i₄ = c in
     let i₃ = i₄.before in
     let n = i₃.before in
     let i₂ = n.before in
     let i₁ = i₂.before in
     let a = i₁.before.args in
-    command-unwritable a.header a.r a.size a.extent a.canonical i₁.if1.false i₂.if2.false (sym (not-false _ i₃.if3.false) ∙ n.numbers_fit.ensures) i₄.if4.true
+    command_unwritable a.header a.r a.size a.extent a.canonical i₁.if1.false i₂.if2.false (sym (not-false _ i₃.if3.false) ∙ n.numbers_fit.ensures) i₄.if4.true
 
 is-writable-head-requires : tie.Need-is-writable-head-requires
 is-writable-head-requires c κs = search rules
 
-returns-5 : tie.Need-returns-5
-returns-5 c =
+returns_5 : tie.Need-returns-5
+returns_5 c =
     let i₅ = c in
     let f = i₅.before in
     let i₄ = f.before in
@@ -55,7 +55,7 @@ returns-5 c =
     let i₂ = n.before in
     let i₁ = i₂.before in
     let a = i₁.before.args in
-    header-unwritable a.header a.r a.size a.extent a.canonical i₁.if1.false i₂.if2.false (sym (not-false _ i₃.if3.false) ∙ n.numbers_fit.ensures) i₄.if4.false (sym (not-true _ i₅.if5.true) ∙ f.is-writable-head.ensures)
+    header_unwritable a.header a.r a.size a.extent a.canonical i₁.if1.false i₂.if2.false (sym (not-false _ i₃.if3.false) ∙ n.numbers_fit.ensures) i₄.if4.false (sym (not-true _ i₅.if5.true) ∙ f.is-writable-head.ensures)
 
 returns-6 : tie.Need-returns-6
 returns-6 c =
@@ -112,19 +112,19 @@ returns-9 c =
     let i₂ = n.before in
     let i₁ = i₂.before in
     let a = i₁.before.args in
-    no-refusal a.header a.r a.size a.extent a.canonical i₁.if1.false i₂.if2.false (sym (not-false _ i₃.if3.false) ∙ n.numbers_fit.ensures) i₄.if4.false (sym (not-false _ i₅.if5.false) ∙ f.is-writable-head.ensures) (omega arith) (not-false _ i₈.if8.false)
+    no_refusal a.header a.r a.size a.extent a.canonical i₁.if1.false i₂.if2.false (sym (not-false _ i₃.if3.false) ∙ n.numbers_fit.ensures) i₄.if4.false (sym (not-false _ i₅.if5.false) ∙ f.is-writable-head.ensures) (omega arith) (not-false _ i₈.if8.false)
 
-pub refusal-of-spec : {M : Type 1} → statement M
-refusal-of-spec =
+pub refusal_of_spec : {M : Type 1} → statement M
+refusal_of_spec =
     tie.close
     (tie.spec
     returns
-    returns-2
+    returns_2
     numbers-fit-requires
-    returns-3
-    returns-4
+    returns_3
+    returns_4
     is-writable-head-requires
-    returns-5
+    returns_5
     returns-6
     returns-7
     returns-8

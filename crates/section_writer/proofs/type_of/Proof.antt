@@ -21,20 +21,20 @@ enum-told-5 c = search rules
 returns : tie.Need-returns
 returns c = rw c.enum_told.given.1
 
-returns-2 : tie.Need-returns-2
-returns-2 c = rw c.enum-told2.given.1
+returns_2 : tie.Need-returns-2
+returns_2 c = rw c.enum-told2.given.1
 
-returns-3 : tie.Need-returns-3
-returns-3 c = rw c.enum-told3.given.1
+returns_3 : tie.Need-returns-3
+returns_3 c = rw c.enum-told3.given.1
 
-returns-4 : tie.Need-returns-4
-returns-4 c = rw c.enum-told4.given.1
+returns_4 : tie.Need-returns-4
+returns_4 c = rw c.enum-told4.given.1
 
-returns-5 : tie.Need-returns-5
-returns-5 c = rw c.enum-told5.given.1
+returns_5 : tie.Need-returns-5
+returns_5 c = rw c.enum-told5.given.1
 
-pub type-of-spec : {M : Type 1} → statement M
-type-of-spec =
+pub type_of_spec : {M : Type 1} → statement M
+type_of_spec =
     tie.close
     (tie.spec
     enum_told
@@ -43,7 +43,7 @@ type-of-spec =
     enum-told-4
     enum-told-5
     returns
-    returns-2
-    returns-3
-    returns-4
-    returns-5)
+    returns_2
+    returns_3
+    returns_4
+    returns_5)

@@ -1,20 +1,20 @@
 -- `section_writer::write_section`: where the answer is that it is written.
 use mathlib.Core.Path.{◌≡◌, sym, ◌∙◌}
 use native.Mathlib.Omega.{arith}
-use Rattle.command_measure.specs.Made.{commandMade}
-use Rattle.command_writer.proofs.Payloads.{refused-later}
+use Rattle.command_measure.specs.Made.{command_made}
+use Rattle.command_writer.proofs.Payloads.{refused_later}
 use Rattle.bit_stores.specs.Written.{answer_of}
-use Rattle.section_writer.specs.Writing.{type_of, sectionMade}
-use Rattle.section_writer.proofs.Answers.{section-answer, allowed, wrote-section, kept-length}
+use Rattle.section_writer.specs.Writing.{type_of, section_made}
+use Rattle.section_writer.proofs.Answers.{section_answer, allowed, wrote_section, kept_length}
 use borrow.Author.Rules.{rules}
 use Rattle.section_writer.proofs.write_section.Statement.{statement}
 use Rattle.section_writer.proofs.write_section.Tie as tie
 
-is : (w : tie.After-answer-section) → let a = w.before.before.before.before.before.args in w.answer-section.result ≡ answer_of (sectionMade a.header (commandMade a.command a.components a.lent.now) (type_of a.command) a.descriptors.now) a.target.now
+is : (w : tie.After-answer-section) → let a = w.before.before.before.before.before.args in w.answer-section.result ≡ answer_of (section_made a.header (command_made a.command a.components a.lent.now) (type_of a.command) a.descriptors.now) a.target.now
 is w =
     let m = w.before in
     let a = m.before.before.before.before.args in
-    w.answer-section.ensures ∙ section-answer a.header a.command a.components a.lent.now a.descriptors.now m.measure-command.result m.measure-command.ensures.0 a.target.now
+    w.answer-section.ensures ∙ section_answer a.header a.command a.components a.lent.now a.descriptors.now m.measure-command.result m.measure-command.ensures.0 a.target.now
 
 measure-command-requires : tie.Need-measure-command-requires
 measure-command-requires c κs = search rules
@@ -58,7 +58,7 @@ put-tail-requires c κs =
     let m = w.before in
     let a = m.before.before.before.before.args in
     let g = allowed a.header a.command a.components a.lent.now a.descriptors.now m.measure-command.result m.measure-command.ensures.0 a.target.now _ _ w.answer-section.ensures t.enum_told.given.1 in
-    let n = kept-length a.target.now _ _ _ _ _ _ h.put-head.ensures p.put-command.ensures in
+    let n = kept_length a.target.now _ _ _ _ _ _ h.put-head.ensures p.put-command.ensures in
     (omega (arith, g.2), omega (arith, g.3, n))
 
 enum-told-2 : tie.Need-enum-told-2
@@ -77,16 +77,16 @@ returns c =
     let w = t.before.before in
     let m = w.before in
     let a = m.before.before.before.before.args in
-    (is w, wrote-section a.header a.command a.components a.lent.now a.descriptors.now m.measure-command.result m.measure-command.ensures.0 a.target.now _ _ w.answer-section.ensures t.enum_told.given.1 _ _ _ _ k.type-of.ensures h.put-head.ensures p.put-command.ensures e.put-tail.ensures)
+    (is w, wrote_section a.header a.command a.components a.lent.now a.descriptors.now m.measure-command.result m.measure-command.ensures.0 a.target.now _ _ w.answer-section.ensures t.enum_told.given.1 _ _ _ _ k.type_of_lem.ensures h.put-head.ensures p.put-command.ensures e.put-tail.ensures)
 
-returns-2 : tie.Need-returns-2
-returns-2 c =
+returns_2 : tie.Need-returns-2
+returns_2 c =
     let w = c.before.before in
     let a = w.before.before.before.before.before.args in
-    (is w, refused-later (sectionMade a.header (commandMade a.command a.components a.lent.now) (type_of a.command) a.descriptors.now) a.target.now _ (sym (is w) ∙ c.enum-told2.given.1))
+    (is w, refused_later (section_made a.header (command_made a.command a.components a.lent.now) (type_of a.command) a.descriptors.now) a.target.now _ (sym (is w) ∙ c.enum-told2.given.1))
 
-pub write-section-spec : {M : Type 1} → statement M
-write-section-spec =
+pub write_section_spec : {M : Type 1} → statement M
+write_section_spec =
     tie.close
     (tie.spec
     measure-command-requires
@@ -100,4 +100,4 @@ write-section-spec =
     enum-told-2
     same_length
     returns
-    returns-2)
+    returns_2)

@@ -3,7 +3,7 @@ use Prim.Native.Nat.{◌+◌, ◌≤◌}
 use mathlib.Core.Path.{refl}
 use native.Mathlib.Omega.{arith}
 use lib.ListN.{length}
-use Rattle.splice_time.proofs.Times.{none_left, aligned-unspecified, aligned-short, aligned_at}
+use Rattle.splice_time.proofs.Times.{none_left, aligned_unspecified, aligned_short, aligned_at}
 use borrow.Author.Rules.{rules}
 use Rattle.splice_time.proofs.read_aligned_time.Statement.{statement}
 use Rattle.splice_time.proofs.read_aligned_time.Tie as tie
@@ -17,23 +17,23 @@ shared-slice-read-if2 c = search rules
 add-t10 : tie.Need-overflow-add-t10
 add-t10 c = search rules
 
-returns-2 : tie.Need-returns-2
-returns-2 c =
+returns_2 : tie.Need-returns-2
+returns_2 c =
     let k = c.before in
     let a = k.before.before.before.args in
-    aligned-unspecified a.s.now a.at k.before.if1.false (k.shared-slice-known2.given a.at).fits c.if2.true
+    aligned_unspecified a.s.now a.at k.before.if1.false (k.shared-slice-known2.given a.at).fits c.if2.true
 
-sub-left : tie.Need-overflow-sub-left
-sub-left c = search rules
+sub_left : tie.Need-overflow-sub-left
+sub_left c = search rules
 
 sub-t13 : tie.Need-overflow-sub-t13
 sub-t13 c = search rules
 
-returns-3 : tie.Need-returns-3
-returns-3 c =
+returns_3 : tie.Need-returns-3
+returns_3 c =
     let k = c.before.before in
     let a = k.before.before.before.args in
-    aligned-short a.s.now a.at k.before.if1.false (k.shared-slice-known2.given a.at).fits c.before.if2.false _ refl c.if3.true
+    aligned_short a.s.now a.at k.before.if1.false (k.shared-slice-known2.given a.at).fits c.before.if2.false _ refl c.if3.true
 
 time33-requires : tie.Need-time33-requires
 time33-requires c κs = search rules
@@ -41,25 +41,25 @@ time33-requires c κs = search rules
 add-t4 : tie.Need-overflow-add-t4
 add-t4 c = search rules
 
-returns-4 : tie.Need-returns-4
-returns-4 c =
+returns_4 : tie.Need-returns-4
+returns_4 c =
     let e = c.before in
     let k = e.before.before in
     let a = k.before.before.before.args in
     let there : a.at + 5 ≤ length a.s.now = omega (arith, e.if3.false, k.before.if1.false) in
     aligned_at a.s.now a.at k.before.if1.false (k.shared-slice-known2.given a.at).fits e.before.if2.false c.time33.result c.time33.ensures there
 
-pub read-aligned-time-spec : {M : Type 1} → statement M
-read-aligned-time-spec =
+pub read_aligned_time_spec : {M : Type 1} → statement M
+read_aligned_time_spec =
     tie.close
     (tie.spec
     returns
     shared-slice-read-if2
     add-t10
-    returns-2
-    sub-left
+    returns_2
+    sub_left
     sub-t13
-    returns-3
+    returns_3
     time33-requires
     add-t4
-    returns-4)
+    returns_4)

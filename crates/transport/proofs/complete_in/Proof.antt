@@ -19,28 +19,28 @@ enum_told : tie.Need-enum-told
 enum_told c = search rules
 
 returns : tie.Need-returns
-returns c = let n = c.before.before in rw (ap next_of (sym n.before.before.held_in.ensures.1) ∙ sym n.next-at.ensures ∙ c.enum_told.given.1)
+returns c = let n = c.before.before in rw (ap next_of (sym n.before.before.held_in.ensures.1) ∙ sym n.next_at_lem.ensures ∙ c.enum_told.given.1)
 
 enum-told-2 : tie.Need-enum-told-2
 enum-told-2 c = search rules
 
-returns-2 : tie.Need-returns-2
-returns-2 c = let n = c.before.before in rw (ap next_of (sym n.before.before.held_in.ensures.1) ∙ sym n.next-at.ensures ∙ c.enum-told2.given.1)
+returns_2 : tie.Need-returns-2
+returns_2 c = let n = c.before.before in rw (ap next_of (sym n.before.before.held_in.ensures.1) ∙ sym n.next_at_lem.ensures ∙ c.enum-told2.given.1)
 
 enum-told-3 : tie.Need-enum-told-3
 enum-told-3 c = search rules
 
-returns-3 : tie.Need-returns-3
-returns-3 c = let n = c.before.before in rw (ap next_of (sym n.before.before.held_in.ensures.1) ∙ sym n.next-at.ensures ∙ c.enum-told3.given.1)
+returns_3 : tie.Need-returns-3
+returns_3 c = let n = c.before.before in rw (ap next_of (sym n.before.before.held_in.ensures.1) ∙ sym n.next_at_lem.ensures ∙ c.enum-told3.given.1)
 
 enum-known-next : tie.Need-enum-known-next
 enum-known-next c = search rules
 
-returns-4 : tie.Need-returns-4
-returns-4 c = let n = c.before.before.before in rw (ap next_of (sym n.before.before.held_in.ensures.1) ∙ sym n.next-at.ensures ∙ c.before.next.given.1)
+returns_4 : tie.Need-returns-4
+returns_4 c = let n = c.before.before.before in rw (ap next_of (sym n.before.before.held_in.ensures.1) ∙ sym n.next_at_lem.ensures ∙ c.before.next.given.1)
 
-pub complete-in-spec : {M : Type 1} → statement M
-complete-in-spec =
+pub complete_in_spec : {M : Type 1} → statement M
+complete_in_spec =
     tie.close
     (tie.spec
     held-in-requires
@@ -49,8 +49,8 @@ complete-in-spec =
     enum_told
     returns
     enum-told-2
-    returns-2
+    returns_2
     enum-told-3
-    returns-3
+    returns_3
     enum-known-next
-    returns-4)
+    returns_4)

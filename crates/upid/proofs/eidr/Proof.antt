@@ -8,7 +8,7 @@ use native.Mathlib.Omega.{arith}
 use lib.ListN.{length, replicate, take, set, get_or}
 use lib.Seq.{paste, paste-zero, paste-suc, take_all}
 use borrow.Author.Tests.{eq-eqb, ne_eqb}
-use Rattle.upid.specs.Upid.{eidrOf}
+use Rattle.upid.specs.Upid.{eidr_of}
 use Rattle.upid.proofs.eidr.Statement.{statement}
 use Rattle.upid.proofs.eidr.Tie as tie
 
@@ -21,25 +21,25 @@ copied out s i h l e =
     rw (e, add-one) (ap (λ (k : ℕ). set (paste (replicate 12 0) 0 s i) k (get_or s i 0)) (sym z) ∙ paste-suc (replicate 12 0) 0 s i 0 f g)
 
 -- all twelve
-all-copied : (out s : List ℕ) (i : ℕ) → i ≤ 12 → 12 ≤ i → length s ≡ 12 → out ≡ paste (replicate 12 0) 0 s i → out ≡ s
-all-copied out s i h h2 l e =
+all_copied : (out s : List ℕ) (i : ℕ) → i ≤ 12 → 12 ≤ i → length s ≡ 12 → out ≡ paste (replicate 12 0) 0 s i → out ≡ s
+all_copied out s i h h2 l e =
     let z : i ≡ 12 = omega arith in
     let g : length s ≤ 12 = omega arith in
     e ∙ rw z (append-nil (take 12 s) ∙ take_all 12 s g)
 
 abbrev invariant-loop : tie.invariant-loop
-invariant-loop upid-type s out₀ i₀ out i = (i ≤ 12) × (length s ≡ 12) × (upid-type ≡ 10) × (out ≡ paste (replicate 12 0) 0 s i)
+invariant-loop upid_type_number s out₀ i₀ out i = (i ≤ 12) × (length s ≡ 12) × (upid_type_number ≡ 10) × (out ≡ paste (replicate 12 0) 0 s i)
 
 abbrev decreases-loop : tie.decreases-loop
-decreases-loop upid-type s out₀ i₀ out i = 12 - i
+decreases-loop upid_type_number s out₀ i₀ out i = 12 - i
 
 returns : tie.Need-returns invariant-loop decreases-loop
-unfolding eidrOf
+unfolding eidr_of
 returns c = rw (ne_eqb _ _ c.if1.true)
 
-returns-2 : tie.Need-returns-2 invariant-loop decreases-loop
-unfolding eidrOf
-returns-2 c = rw (eq-eqb _ _ c.before.if1.false, ne_eqb _ _ c.if2.true)
+returns_2 : tie.Need-returns-2 invariant-loop decreases-loop
+unfolding eidr_of
+returns_2 c = rw (eq-eqb _ _ c.before.if1.false, ne_eqb _ _ c.if2.true)
 
 loop-holds : tie.Need-loop-init invariant-loop decreases-loop
 loop-holds c = (omega arith, c.if2.false, c.before.if1.false, paste-zero (replicate 12 0) 0 c.before.before.args.upid.now)
@@ -59,22 +59,22 @@ loop-less c = omega arith
 loop-again : tie.Need-loop-preserved invariant-loop decreases-loop
 loop-again c = (omega arith, c.before.before.loop.invariant.1, c.before.before.loop.invariant.2, copied _ _ _ c.before.loop-test.true c.before.before.loop.invariant.1 c.before.before.loop.invariant.3)
 
-returns-3 : tie.Need-returns-3 invariant-loop decreases-loop
-unfolding eidrOf
-returns-3 c = rw (eq-eqb _ _ c.before.loop.invariant.2, eq-eqb _ _ c.before.loop.invariant.1) (all-copied _ _ _ c.before.loop.invariant.0 c.loop-test.false c.before.loop.invariant.1 c.before.loop.invariant.3)
+returns_3 : tie.Need-returns-3 invariant-loop decreases-loop
+unfolding eidr_of
+returns_3 c = rw (eq-eqb _ _ c.before.loop.invariant.2, eq-eqb _ _ c.before.loop.invariant.1) (all_copied _ _ _ c.before.loop.invariant.0 c.loop-test.false c.before.loop.invariant.1 c.before.loop.invariant.3)
 
-pub eidr-spec : {M : Type 1} → statement M
-eidr-spec =
+pub eidr_spec : {M : Type 1} → statement M
+eidr_spec =
     tie.close
     (tie.spec
     invariant-loop
     decreases-loop
     returns
-    returns-2
+    returns_2
     loop-holds
     shared-slice-read-out
     array-write-out
     add-i
     loop-less
     loop-again
-    returns-3)
+    returns_3)

@@ -1,7 +1,7 @@
 -- `upid::read_upid` meets its contract: what was accepted has at most 255 bytes, and as a MID it was read as one, which is what its list asks.
 use Rattle.upid.specs.Private.{Accepted}
-use Rattle.upid.specs.Upid.{checkOf}
-use Rattle.upid.proofs.Walks.{check-short, check-mid, answer-refused, answer-fine}
+use Rattle.upid.specs.Upid.{check_of}
+use Rattle.upid.proofs.Walks.{check_short, check_mid, answer_refused, answer_fine}
 use borrow.Author.Rules.{rules}
 use Rattle.upid.proofs.read_upid.Statement.{statement}
 use Rattle.upid.proofs.read_upid.Tie as tie
@@ -24,20 +24,20 @@ enum-told-2 c = search rules
 list-parts-requires : tie.Need-list-parts-requires
 list-parts-requires c κs =
     let start = c.before.before.before.before.before in
-    let a : Accepted (checkOf start.args.upid-type start.args.upid.now) = rw (← c.before.before.check-upid.ensures, c.enum-told2.given.1) tt in
+    let a : Accepted (check_of start.args.upid_type_number start.args.upid.now) = rw (← c.before.before.check-upid.ensures, c.enum-told2.given.1) tt in
     record {
-      accepted = λ e. rw e (check-mid _ (rw e at a));
-      short = check-short _ _ a;
+      accepted = λ e. rw e (check_mid _ (rw e at a));
+      short = check_short _ _ a;
     }
 
 returns : tie.Need-returns
-returns c = answer-refused _ _ _ _ _ c.before.before.before.check-upid.ensures c.before.before.before.before.eidr.ensures _ c.before.enum_told.given.1 c.blank.ensures
+returns c = answer_refused _ _ _ _ _ c.before.before.before.check-upid.ensures c.before.before.before.before.eidr.ensures _ c.before.enum_told.given.1 c.blank.ensures
 
-returns-2 : tie.Need-returns-2
-returns-2 c = answer-fine _ _ _ _ _ c.before.before.before.check-upid.ensures c.before.before.before.before.eidr.ensures _ c.before.enum-told2.given.1 c.list-parts.ensures
+returns_2 : tie.Need-returns-2
+returns_2 c = answer_fine _ _ _ _ _ c.before.before.before.check-upid.ensures c.before.before.before.before.eidr.ensures _ c.before.enum-told2.given.1 c.list-parts.ensures
 
-pub read-upid-spec : {M : Type 1} → statement M
-read-upid-spec =
+pub read_upid_spec : {M : Type 1} → statement M
+read_upid_spec =
     tie.close
     (tie.spec
     eidr-requires
@@ -47,4 +47,4 @@ read-upid-spec =
     enum-told-2
     list-parts-requires
     returns
-    returns-2)
+    returns_2)

@@ -24,14 +24,14 @@ in-plain-requires c κs = search rules
 returns : tie.Need-returns
 returns c = rw c.before.enum_told.given.1 c.in-name.ensures
 
-returns-2 : tie.Need-returns-2
-returns-2 c = rw c.before.enum-told2.given.1 c.in-quotes.ensures
+returns_2 : tie.Need-returns-2
+returns_2 c = rw c.before.enum-told2.given.1 c.in-quotes.ensures
 
-returns-3 : tie.Need-returns-3
-returns-3 c = rw c.before.enum-told3.given.1 c.in-plain.ensures
+returns_3 : tie.Need-returns-3
+returns_3 c = rw c.before.enum-told3.given.1 c.in-plain.ensures
 
-pub belongs-spec : {M : Type 1} → statement M
-belongs-spec =
+pub belongs_spec : {M : Type 1} → statement M
+belongs_spec =
     tie.close
     (tie.spec
     enum_told
@@ -41,5 +41,5 @@ belongs-spec =
     enum-told-3
     in-plain-requires
     returns
-    returns-2
-    returns-3)
+    returns_2
+    returns_3)

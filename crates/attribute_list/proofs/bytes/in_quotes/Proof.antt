@@ -1,16 +1,16 @@
 -- `attribute_list::bytes::in_quotes` meets its contract.
-use Rattle.attribute_list.proofs.Runs.{quoted-quote, quoted-return, quoted-else}
+use Rattle.attribute_list.proofs.Runs.{quoted_quote, quoted_return, quoted_else}
 use Rattle.attribute_list.proofs.bytes.in_quotes.Statement.{statement}
 use Rattle.attribute_list.proofs.bytes.in_quotes.Tie as tie
 
 returns : tie.Need-returns
-returns c = quoted-quote _ c.if1.true
+returns c = quoted_quote _ c.if1.true
 
-returns-2 : tie.Need-returns-2
-returns-2 c = quoted-return _ c.before.if1.false c.if2.true
+returns_2 : tie.Need-returns-2
+returns_2 c = quoted_return _ c.before.if1.false c.if2.true
 
-returns-3 : tie.Need-returns-3
-returns-3 c = quoted-else _ c.before.if1.false c.if2.false
+returns_3 : tie.Need-returns-3
+returns_3 c = quoted_else _ c.before.if1.false c.if2.false
 
-pub in-quotes-spec : {M : Type 1} → statement M
-in-quotes-spec = tie.close (tie.spec returns returns-2 returns-3)
+pub in_quotes_spec : {M : Type 1} → statement M
+in_quotes_spec = tie.close (tie.spec returns returns_2 returns_3)

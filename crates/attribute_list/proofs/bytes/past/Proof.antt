@@ -6,7 +6,7 @@ use lib.ListN.{length, drop}
 use borrow.Author.Tests.{not-true, not-false}
 use Rattle.attribute_list.specs.Cutting.{span}
 use Rattle.attribute_list.specs.Cutting.{test_of}
-use Rattle.attribute_list.proofs.Runs.{span-stop, span_more, span-end}
+use Rattle.attribute_list.proofs.Runs.{span_stop, span_more, span_end}
 use borrow.Author.Rules.{rules}
 use Rattle.attribute_list.proofs.bytes.past.Statement.{statement}
 use Rattle.attribute_list.proofs.bytes.past.Tie as tie
@@ -28,7 +28,7 @@ belongs-requires c κs = search rules
 
 returns : tie.Need-returns invariant-loop decreases-loop
 returns c = let l = c.before.before.before.before in
-    sym (l.loop.invariant ∙ span-stop _ _ _ c.before.before.before.loop-test.true (sym c.before.belongs.ensures ∙ not-true _ c.if1.true))
+    sym (l.loop.invariant ∙ span_stop _ _ _ c.before.before.before.loop-test.true (sym c.before.belongs.ensures ∙ not-true _ c.if1.true))
 
 add-i : tie.Need-overflow-add-i invariant-loop decreases-loop
 add-i c = omega arith
@@ -40,11 +40,11 @@ loop-again : tie.Need-loop-preserved invariant-loop decreases-loop
 loop-again c = let l = c.before.before.before.before in
     l.loop.invariant ∙ span_more _ _ _ c.before.before.before.loop-test.true (sym c.before.belongs.ensures ∙ not-false _ c.if1.false)
 
-returns-2 : tie.Need-returns-2 invariant-loop decreases-loop
-returns-2 c = sym (c.before.loop.invariant ∙ span-end _ _ _ c.loop-test.false)
+returns_2 : tie.Need-returns-2 invariant-loop decreases-loop
+returns_2 c = sym (c.before.loop.invariant ∙ span_end _ _ _ c.loop-test.false)
 
-pub past-spec : {M : Type 1} → statement M
-past-spec =
+pub past_spec : {M : Type 1} → statement M
+past_spec =
     tie.close
     (tie.spec
     invariant-loop
@@ -56,4 +56,4 @@ past-spec =
     add-i
     loop-less
     loop-again
-    returns-2)
+    returns_2)

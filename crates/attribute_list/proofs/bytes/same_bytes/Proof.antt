@@ -26,8 +26,8 @@ shared-slice-read-if2 c = omega arith
 shared-slice-read-if2-2 : tie.Need-shared-slice-read-if2-2 invariant-loop decreases-loop
 shared-slice-read-if2-2 c = omega arith
 
-returns-2 : tie.Need-returns-2 invariant-loop decreases-loop
-returns-2 c = let l = c.before.before.before.before in
+returns_2 : tie.Need-returns-2 invariant-loop decreases-loop
+returns_2 c = let l = c.before.before.before.before in
     sym (l.loop.invariant ∙ same_not _ _ _ c.before.before.before.loop-test.true (omega arith) c.if2.true)
 
 add-i : tie.Need-overflow-add-i invariant-loop decreases-loop
@@ -40,11 +40,11 @@ loop-again : tie.Need-loop-preserved invariant-loop decreases-loop
 loop-again c = let l = c.before.before.before.before in
     l.loop.invariant ∙ same_more _ _ _ c.before.before.before.loop-test.true (omega arith) c.if2.false
 
-returns-3 : tie.Need-returns-3 invariant-loop decreases-loop
-returns-3 c = sym (c.before.loop.invariant ∙ same_end _ _ _ c.loop-test.false (omega arith))
+returns_3 : tie.Need-returns-3 invariant-loop decreases-loop
+returns_3 c = sym (c.before.loop.invariant ∙ same_end _ _ _ c.loop-test.false (omega arith))
 
-pub same-bytes-spec : {M : Type 1} → statement M
-same-bytes-spec =
+pub same_bytes_spec : {M : Type 1} → statement M
+same_bytes_spec =
     tie.close
     (tie.spec
     invariant-loop
@@ -53,8 +53,8 @@ same-bytes-spec =
     loop-holds
     shared-slice-read-if2
     shared-slice-read-if2-2
-    returns-2
+    returns_2
     add-i
     loop-less
     loop-again
-    returns-3)
+    returns_3)

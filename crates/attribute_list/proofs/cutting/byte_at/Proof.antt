@@ -11,8 +11,8 @@ shared-slice-read-result c = search rules
 returns : tie.Need-returns
 returns c = search rules
 
-returns-2 : tie.Need-returns-2
-returns-2 c = sym (get_or-eq_default c.before.args.line.now 0 c.if1.false)
+returns_2 : tie.Need-returns-2
+returns_2 c = sym (get_or-eq_default c.before.args.line.now 0 c.if1.false)
 
-pub byte-at-spec : {M : Type 1} → statement M
-byte-at-spec = tie.close (tie.spec shared-slice-read-result returns returns-2)
+pub byte_at_spec : {M : Type 1} → statement M
+byte_at_spec = tie.close (tie.spec shared-slice-read-result returns returns_2)

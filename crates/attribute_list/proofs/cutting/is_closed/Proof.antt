@@ -11,8 +11,8 @@ returns c = rw (drop_of_length-le c.before.args.line.now c.if1.true)
 shared-slice-read-result : tie.Need-shared-slice-read-result
 shared-slice-read-result c = search rules
 
-returns-2 : tie.Need-returns-2
-returns-2 c = rw (drop-cons c.before.before.args.line.now _ 0 c.before.if1.false)
+returns_2 : tie.Need-returns-2
+returns_2 c = rw (drop-cons c.before.before.args.line.now _ 0 c.before.if1.false)
 
-pub is-closed-spec : {M : Type 1} → statement M
-is-closed-spec = tie.close (tie.spec returns shared-slice-read-result returns-2)
+pub is_closed_spec : {M : Type 1} → statement M
+is_closed_spec = tie.close (tie.spec returns shared-slice-read-result returns_2)

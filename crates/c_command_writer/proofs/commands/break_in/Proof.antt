@@ -1,6 +1,6 @@
 -- `c_command_writer::commands::break_in` meets its contract.
 use borrow.Author.Rules.{rules}
-use Rattle.c_command_writer.specs.CommandGiven.{breakIn}
+use Rattle.c_command_writer.specs.CommandGiven.{break_in}
 use Rattle.c_command_writer.proofs.commands.break_in.Statement.{statement}
 use Rattle.c_command_writer.proofs.commands.break_in.Tie as tie
 
@@ -14,8 +14,8 @@ word-at-requires-3 : tie.Need-word-at-requires-3
 word-at-requires-3 c κs = search rules
 
 returns : tie.Need-returns
-unfolding breakIn
+unfolding break_in
 returns c = rw (c.word-at3.ensures, c.before.word-at2.ensures, c.before.before.word_at.ensures)
 
-pub break-in-spec : {M : Type 1} → statement M
-break-in-spec = tie.close (tie.spec word-at-requires word-at-requires-2 word-at-requires-3 returns)
+pub break_in_spec : {M : Type 1} → statement M
+break_in_spec = tie.close (tie.spec word-at-requires word-at-requires-2 word-at-requires-3 returns)

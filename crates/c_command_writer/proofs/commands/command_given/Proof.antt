@@ -1,7 +1,7 @@
 -- `c_command_writer::commands::command_given` meets its contract.
 use borrow.Author.Rules.{rules}
 use mathlib.Core.Path.{ap, ◌∙◌}
-use Rattle.c_command_writer.specs.CommandGiven.{commandFrom}
+use Rattle.c_command_writer.specs.CommandGiven.{command_from}
 use Rattle.c_command_writer.proofs.commands.command_given.Statement.{statement}
 use Rattle.c_command_writer.proofs.commands.command_given.Tie as tie
 
@@ -12,7 +12,7 @@ command-from-requires : tie.Need-command-from-requires
 command-from-requires c κs = search rules
 
 returns : tie.Need-returns
-returns c = c.command-from.ensures ∙ ap commandFrom c.before.command-in.ensures
+returns c = c.command-from.ensures ∙ ap command_from c.before.command-in.ensures
 
-pub command-given-spec : {M : Type 1} → statement M
-command-given-spec = tie.close (tie.spec command-in-requires command-from-requires returns)
+pub command_given_spec : {M : Type 1} → statement M
+command_given_spec = tie.close (tie.spec command-in-requires command-from-requires returns)

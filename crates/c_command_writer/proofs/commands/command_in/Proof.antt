@@ -1,6 +1,6 @@
 -- `c_command_writer::commands::command_in` meets its contract.
 use borrow.Author.Rules.{rules}
-use Rattle.c_command_writer.specs.CommandGiven.{commandIn}
+use Rattle.c_command_writer.specs.CommandGiven.{command_in}
 use Rattle.c_command_writer.proofs.commands.command_in.Statement.{statement}
 use Rattle.c_command_writer.proofs.commands.command_in.Tie as tie
 
@@ -29,11 +29,11 @@ word-at-requires-7 : tie.Need-word-at-requires-7
 word-at-requires-7 c κs = search rules
 
 returns : tie.Need-returns
-unfolding commandIn
+unfolding command_in
 returns c = rw (c.word-at7.ensures, c.before.word-at6.ensures, c.before.before.word-at5.ensures, c.before.before.before.word-at4.ensures, c.before.before.before.before.word-at3.ensures, c.before.before.before.before.before.insert-in.ensures, c.before.before.before.before.before.before.word-at2.ensures, c.before.before.before.before.before.before.before.word_at.ensures)
 
-pub command-in-spec : {M : Type 1} → statement M
-command-in-spec =
+pub command_in_spec : {M : Type 1} → statement M
+command_in_spec =
     tie.close
     (tie.spec
     word-at-requires

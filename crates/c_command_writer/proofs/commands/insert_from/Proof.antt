@@ -6,7 +6,7 @@ use lib.Dec.{eqb}
 use borrow.Author.Tests.{eq-eqb, ne_eqb}
 use Rattle.names.specs.declared.flags.NetworkIndicator.{NetworkIndicator}
 use Rattle.table.specs.Bits.{pick}
-use Rattle.c_command_writer.specs.CommandGiven.{insertFrom}
+use Rattle.c_command_writer.specs.CommandGiven.{insert_from}
 use Rattle.c_command_writer.proofs.commands.insert_from.Statement.{statement}
 use Rattle.c_command_writer.proofs.commands.insert_from.Tie as tie
 
@@ -29,9 +29,9 @@ cast-t14 : tie.Need-overflow-cast-t14
 cast-t14 c = search rules
 
 returns : tie.Need-returns
-unfolding insertFrom
+unfolding insert_from
 returns c = rw (indicated c.before.before.before.before.before, c.before.before.before.before.mode-from.ensures, c.before.before.before.break-from.ensures)
 
-pub insert-from-spec : {M : Type 1} → statement M
-insert-from-spec =
+pub insert_from_spec : {M : Type 1} → statement M
+insert_from_spec =
     tie.close (tie.spec mode-from-requires break-from-requires cast-t10 cast-t12 cast-t14 returns)

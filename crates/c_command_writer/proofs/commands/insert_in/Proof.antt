@@ -1,6 +1,6 @@
 -- `c_command_writer::commands::insert_in` meets its contract.
 use borrow.Author.Rules.{rules}
-use Rattle.c_command_writer.specs.CommandGiven.{insertIn}
+use Rattle.c_command_writer.specs.CommandGiven.{insert_in}
 use Rattle.c_command_writer.proofs.commands.insert_in.Statement.{statement}
 use Rattle.c_command_writer.proofs.commands.insert_in.Tie as tie
 
@@ -32,11 +32,11 @@ word-at-requires-7 : tie.Need-word-at-requires-7
 word-at-requires-7 c κs = search rules
 
 returns : tie.Need-returns
-unfolding insertIn
+unfolding insert_in
 returns c = rw (c.word-at7.ensures, c.before.word-at6.ensures, c.before.before.word-at5.ensures, c.before.before.before.break-in.ensures, c.before.before.before.before.mode-in.ensures, c.before.before.before.before.before.word-at4.ensures, c.before.before.before.before.before.before.word-at3.ensures, c.before.before.before.before.before.before.before.word-at2.ensures, c.before.before.before.before.before.before.before.before.word_at.ensures)
 
-pub insert-in-spec : {M : Type 1} → statement M
-insert-in-spec =
+pub insert_in_spec : {M : Type 1} → statement M
+insert_in_spec =
     tie.close
     (tie.spec
     word-at-requires

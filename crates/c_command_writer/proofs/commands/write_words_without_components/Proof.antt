@@ -5,8 +5,8 @@ use mathlib.Core.List.{List, [], ◌++◌}
 use mathlib.Core.Path.{◌≡◌, refl, ap, ◌∙◌}
 use native.Mathlib.Omega.{arith}
 use Rattle.command.specs.Command.{array}
-use Rattle.command_measure.specs.Made.{commandMade}
-use Rattle.c_command_writer.proofs.Words.{words-refused, words-taken, later-nil}
+use Rattle.command_measure.specs.Made.{command_made}
+use Rattle.c_command_writer.proofs.Words.{words_refused, words_taken, later_nil}
 use Rattle.c_command_writer.proofs.commands.write_words_without_components.Statement.{statement}
 use Rattle.c_command_writer.proofs.commands.write_words_without_components.Tie as tie
 
@@ -23,7 +23,7 @@ returns : tie.Need-returns
 returns c =
     let x = c.before.before.before in
     let a = x.before.before.before.before.before.args in
-    let w = words-taken _ (commandMade a.command (array []) a.lent.now) a.refusal a.target.now x.write-command-without-components.result refl _ (omega arith) x.write-command-without-components.ensures.0 x.write-command-without-components.ensures.1 in
+    let w = words_taken _ (command_made a.command (array []) a.lent.now) a.refusal a.target.now x.write-command-without-components.result refl _ (omega arith) x.write-command-without-components.ensures.0 x.write-command-without-components.ensures.1 in
     (c.flat-written.ensures ∙ w.0, w.1)
 
 sub-write-command-without-components : tie.Need-overflow-sub-write-command-without-components
@@ -44,17 +44,17 @@ lower-refusal-requires c κs = search rules
 same-length-2 : tie.Need-same-length-2
 same-length-2 c = search rules
 
-returns-2 : tie.Need-returns-2
-returns-2 c =
+returns_2 : tie.Need-returns-2
+returns_2 c =
     let x = c.before.before.before in
     let s = x.before.before.before.before.before in
     let a = s.args in
-    let m = commandMade a.command (array []) a.lent.now in
-    let w = words-refused _ m a.refusal a.target.now x.write-command-without-components2.result refl (omega arith) s.requires x.write-command-without-components2.ensures.0 in
-    (c.lower-refusal.ensures ∙ w.0, ap (λ (l : List ℕ). l ++ a.target.now) (x.write-command-without-components2.ensures.1 ∙ later-nil m) ∙ w.1)
+    let m = command_made a.command (array []) a.lent.now in
+    let w = words_refused _ m a.refusal a.target.now x.write-command-without-components2.result refl (omega arith) s.requires x.write-command-without-components2.ensures.0 in
+    (c.lower-refusal.ensures ∙ w.0, ap (λ (l : List ℕ). l ++ a.target.now) (x.write-command-without-components2.ensures.1 ∙ later_nil m) ∙ w.1)
 
-pub write-words-without-components-spec : {M : Type 1} → statement M
-write-words-without-components-spec =
+pub write_words_without_components_spec : {M : Type 1} → statement M
+write_words_without_components_spec =
     tie.close
     (tie.spec
     write-command-without-components-requires
@@ -67,4 +67,4 @@ write-words-without-components-spec =
     write-command-without-components-requires-2
     lower-refusal-requires
     same-length-2
-    returns-2)
+    returns_2)

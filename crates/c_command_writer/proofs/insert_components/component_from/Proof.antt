@@ -1,6 +1,6 @@
 -- `c_command_writer::insert_components::component_from` meets its contract.
 use borrow.Author.Rules.{rules}
-use Rattle.c_command_writer.specs.CommandGiven.{componentFrom}
+use Rattle.c_command_writer.specs.CommandGiven.{component_from}
 use Rattle.c_command_writer.proofs.insert_components.component_from.Statement.{statement}
 use Rattle.c_command_writer.proofs.insert_components.component_from.Tie as tie
 
@@ -20,11 +20,11 @@ time-from-requires : tie.Need-time-from-requires
 time-from-requires c κs = search rules
 
 returns : tie.Need-returns
-unfolding componentFrom
+unfolding component_from
 returns c = rw (c.time-from.ensures, c.before.word-at3.ensures, c.before.before.word-at2.ensures, c.before.before.before.word_at.ensures)
 
-pub component-from-spec : {M : Type 1} → statement M
-component-from-spec =
+pub component_from_spec : {M : Type 1} → statement M
+component_from_spec =
     tie.close
     (tie.spec
     word-at-requires

@@ -5,21 +5,21 @@ use native.Mathlib.Omega.{arith}
 use lib.ListN.{drop}
 use lib.Seq.{drop-drop}
 use borrow.Author.Tests.{not-true, not-false}
-use Rattle.c_command_writer.specs.Words.{within, eachPlace}
-use Rattle.c_command_writer.specs.CommandGiven.{insertComponentsWithin}
-use Rattle.c_command_writer.specs.CommandWords.{insertComponentsIn, componentWidths}
-use Rattle.c_command_writer.proofs.Words.{turn, stop, each_step, each-end}
+use Rattle.c_command_writer.specs.Words.{within, each_place}
+use Rattle.c_command_writer.specs.CommandGiven.{insert_components_within}
+use Rattle.c_command_writer.specs.CommandWords.{insert_components_in, component_widths}
+use Rattle.c_command_writer.proofs.Words.{turn, stop, each_step, each_end}
 use Rattle.c_command_writer.proofs.insert_components.insert_components_within.Statement.{statement}
 use Rattle.c_command_writer.proofs.insert_components.insert_components_within.Tie as tie
 
 abbrev invariant-loop : tie.invariant-loop
-invariant-loop count words widths i₀ i = (i ≤ count) × (eachPlace (within componentWidths) 3 (count - i) (drop (i * 3) (insertComponentsIn words)) ≡ insertComponentsWithin count words)
+invariant-loop count words widths i₀ i = (i ≤ count) × (each_place (within component_widths) 3 (count - i) (drop (i * 3) (insert_components_in words)) ≡ insert_components_within count words)
 
 abbrev decreases-loop : tie.decreases-loop
 decreases-loop count words widths i₀ i = count - i
 
 loop-holds : tie.Need-loop-init invariant-loop decreases-loop
-unfolding insertComponentsWithin
+unfolding insert_components_within
 loop-holds c = let z : c.before.args.count - 0 ≡ c.before.args.count = omega arith in (omega arith, rw z)
 
 slice-aggregate-are-within : tie.Need-slice-aggregate-are-within invariant-loop decreases-loop
@@ -38,14 +38,14 @@ are-within-requires : tie.Need-are-within-requires invariant-loop decreases-loop
 are-within-requires c κs = omega arith
 
 returns : tie.Need-returns invariant-loop decreases-loop
-unfolding insertComponentsWithin componentWidths
+unfolding insert_components_within component_widths
 returns c =
     let w = c.before in
     let l = c.before.before.before.before.before in
     let a = l.before.before.args in
     let p = drop-drop (l.loop.i * 3) 2 a.words.now in
-    stop _ _ _ _ l.loop.invariant.1 (each_step (within componentWidths) 3 a.count (insertComponentsIn a.words.now) l.loop.i (omega arith))
-    (sym (w.are-within.ensures ∙ ap (within componentWidths) (c.before.before.words-from.ensures ∙ sym p)) ∙ not-true _ c.if1.true)
+    stop _ _ _ _ l.loop.invariant.1 (each_step (within component_widths) 3 a.count (insert_components_in a.words.now) l.loop.i (omega arith))
+    (sym (w.are-within.ensures ∙ ap (within component_widths) (c.before.before.words-from.ensures ∙ sym p)) ∙ not-true _ c.if1.true)
 
 add-i : tie.Need-overflow-add-i invariant-loop decreases-loop
 add-i c = omega arith
@@ -54,25 +54,25 @@ loop-less : tie.Need-loop-smaller invariant-loop decreases-loop
 loop-less c = omega arith
 
 loop-again : tie.Need-loop-preserved invariant-loop decreases-loop
-unfolding insertComponentsWithin componentWidths
+unfolding insert_components_within component_widths
 loop-again c =
     let w = c.before in
     let l = c.before.before.before.before.before in
     let a = l.before.before.args in
     let p = drop-drop (l.loop.i * 3) 2 a.words.now in (
       omega arith,
-      turn _ _ _ _ l.loop.invariant.1 (each_step (within componentWidths) 3 a.count (insertComponentsIn a.words.now) l.loop.i (omega arith))
-          (sym (w.are-within.ensures ∙ ap (within componentWidths) (c.before.before.words-from.ensures ∙ sym p)) ∙ not-false _ c.if1.false),
+      turn _ _ _ _ l.loop.invariant.1 (each_step (within component_widths) 3 a.count (insert_components_in a.words.now) l.loop.i (omega arith))
+          (sym (w.are-within.ensures ∙ ap (within component_widths) (c.before.before.words-from.ensures ∙ sym p)) ∙ not-false _ c.if1.false),
     )
 
-returns-2 : tie.Need-returns-2 invariant-loop decreases-loop
-returns-2 c =
+returns_2 : tie.Need-returns-2 invariant-loop decreases-loop
+returns_2 c =
     let l = c.before in
     let a = l.before.before.args in
-    sym (each-end (within componentWidths) 3 a.count (drop (l.loop.i * 3) (insertComponentsIn a.words.now)) l.loop.i (omega arith)) ∙ l.loop.invariant.1
+    sym (each_end (within component_widths) 3 a.count (drop (l.loop.i * 3) (insert_components_in a.words.now)) l.loop.i (omega arith)) ∙ l.loop.invariant.1
 
-pub insert-components-within-spec : {M : Type 1} → statement M
-insert-components-within-spec =
+pub insert_components_within_spec : {M : Type 1} → statement M
+insert_components_within_spec =
     tie.close
     (tie.spec
     invariant-loop
@@ -87,4 +87,4 @@ insert-components-within-spec =
     add-i
     loop-less
     loop-again
-    returns-2)
+    returns_2)

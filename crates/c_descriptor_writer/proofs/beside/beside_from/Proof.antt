@@ -1,6 +1,6 @@
 -- `c_descriptor_writer::beside::beside_from` meets its contract.
 use borrow.Author.Rules.{rules}
-use Rattle.c_descriptor_writer.specs.ItemGiven.{besideFrom}
+use Rattle.c_descriptor_writer.specs.ItemGiven.{beside_from}
 use Rattle.c_descriptor_writer.proofs.beside.beside_from.Statement.{statement}
 use Rattle.c_descriptor_writer.proofs.beside.beside_from.Tie as tie
 
@@ -11,8 +11,8 @@ eidr-from-requires : tie.Need-eidr-from-requires
 eidr-from-requires c κs = search rules
 
 returns : tie.Need-returns
-unfolding besideFrom
+unfolding beside_from
 returns c = rw (c.eidr-from.ensures, c.before.places-from.ensures)
 
-pub beside-from-spec : {M : Type 1} → statement M
-beside-from-spec = tie.close (tie.spec places-from-requires eidr-from-requires returns)
+pub beside_from_spec : {M : Type 1} → statement M
+beside_from_spec = tie.close (tie.spec places-from-requires eidr-from-requires returns)

@@ -4,19 +4,19 @@ use mathlib.Core.Path.{◌≡◌, ap, sym, ◌∙◌}
 use native.Mathlib.Omega.{arith}
 use lib.ListN.{length, replicate, length-replicate, length-set}
 use lib.Seq.{paste, paste-zero, drop-drop}
-use Rattle.descriptor.specs.Segmentation.{blankComponent}
-use Rattle.descriptor.specs.Full.{filled, blankBeside}
+use Rattle.descriptor.specs.Segmentation.{blank_component}
+use Rattle.descriptor.specs.Full.{filled, blank_beside}
 use Rattle.descriptor.specs.declared.full.Beside.{Beside}
-use Rattle.c_section.proofs.Arrays.{filled-turn}
+use Rattle.c_section.proofs.Arrays.{filled_turn}
 use Rattle.c_command_writer.specs.Words.{places_of}
-use Rattle.c_descriptor_writer.specs.ItemGiven.{placeFrom, placesFrom}
-use Rattle.c_descriptor_writer.specs.ItemWords.{placesIn}
-use Rattle.c_command_writer.proofs.Words.{places-length, places-at, filled-front}
+use Rattle.c_descriptor_writer.specs.ItemGiven.{place_from, places_from}
+use Rattle.c_descriptor_writer.specs.ItemWords.{places_in}
+use Rattle.c_command_writer.proofs.Words.{places_length, places_at, filled_front}
 use Rattle.c_descriptor_writer.proofs.beside.places_from.Statement.{statement}
 use Rattle.c_descriptor_writer.proofs.beside.places_from.Tie as tie
 
 abbrev invariant-loop : tie.invariant-loop
-invariant-loop count words out₀ i₀ out i = (i ≤ count) × (length out ≡ 255) × (out ≡ paste (replicate 255 blankComponent) 0 (places_of placeFrom 2 count (placesIn words)) i)
+invariant-loop count words out₀ i₀ out i = (i ≤ count) × (length out ≡ 255) × (out ≡ paste (replicate 255 blank_component) 0 (places_of place_from 2 count (places_in words)) i)
 
 abbrev decreases-loop : tie.decreases-loop
 decreases-loop count words out₀ i₀ out i = count - i
@@ -25,11 +25,11 @@ blank-beside-requires : tie.Need-blank-beside-requires invariant-loop decreases-
 blank-beside-requires c κs = omega arith
 
 loop-holds : tie.Need-loop-init invariant-loop decreases-loop
-unfolding blankBeside filled
+unfolding blank_beside filled
 loop-holds c =
     let a = c.before.before.before.args in
     let e = ap (λ (b : Beside). b.components) c.before.blank-beside.ensures in
-    (omega arith, rw e (length-replicate 255 blankComponent), e ∙ paste-zero (replicate 255 blankComponent) 0 (places_of placeFrom 2 a.count (placesIn a.words.now)))
+    (omega arith, rw e (length-replicate 255 blank_component), e ∙ paste-zero (replicate 255 blank_component) 0 (places_of place_from 2 a.count (places_in a.words.now)))
 
 mul-words-from : tie.Need-overflow-mul-words-from invariant-loop decreases-loop
 mul-words-from c = omega arith
@@ -60,18 +60,18 @@ loop-again c =
     let l = c.before.before.before in
     let a = l.before.before.before.before.args in
     let p = drop-drop (l.loop.i * 2) 5 a.words.now in
-    let e = c.place-from.ensures ∙ ap placeFrom (c.before.words-from.ensures ∙ sym p) ∙ places-at placeFrom 2 a.count (placesIn a.words.now) l.loop.i blankComponent (omega arith) in
-    (omega arith, length-set l.loop.out l.loop.i _ ∙ l.loop.invariant.1, filled-turn (replicate 255 blankComponent) (places_of placeFrom 2 a.count (placesIn a.words.now)) l.loop.out l.loop.i _ blankComponent (omega (arith, length-replicate 255 blankComponent)) (omega (arith, places-length placeFrom 2 a.count (placesIn a.words.now))) e l.loop.invariant.2)
+    let e = c.place-from.ensures ∙ ap place_from (c.before.words-from.ensures ∙ sym p) ∙ places_at place_from 2 a.count (places_in a.words.now) l.loop.i blank_component (omega arith) in
+    (omega arith, length-set l.loop.out l.loop.i _ ∙ l.loop.invariant.1, filled_turn (replicate 255 blank_component) (places_of place_from 2 a.count (places_in a.words.now)) l.loop.out l.loop.i _ blank_component (omega (arith, length-replicate 255 blank_component)) (omega (arith, places_length place_from 2 a.count (places_in a.words.now))) e l.loop.invariant.2)
 
 returns : tie.Need-returns invariant-loop decreases-loop
-unfolding placesFrom filled
+unfolding places_from filled
 returns c =
     let l = c.before in
     let a = l.before.before.before.before.args in
-    filled-front 255 blankComponent l.loop.out (places_of placeFrom 2 a.count (placesIn a.words.now)) l.loop.i a.count (places-length placeFrom 2 a.count (placesIn a.words.now)) (omega arith) l.loop.invariant.2
+    filled_front 255 blank_component l.loop.out (places_of place_from 2 a.count (places_in a.words.now)) l.loop.i a.count (places_length place_from 2 a.count (places_in a.words.now)) (omega arith) l.loop.invariant.2
 
-pub places-from-spec : {M : Type 1} → statement M
-places-from-spec =
+pub places_from_spec : {M : Type 1} → statement M
+places_from_spec =
     tie.close
     (tie.spec
     invariant-loop

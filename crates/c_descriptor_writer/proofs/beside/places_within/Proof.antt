@@ -5,20 +5,20 @@ use native.Mathlib.Omega.{arith}
 use lib.ListN.{drop}
 use lib.Seq.{drop-drop}
 use borrow.Author.Tests.{not-true, not-false}
-use Rattle.c_command_writer.specs.Words.{within, eachPlace}
-use Rattle.c_descriptor_writer.specs.ItemWords.{placesIn, placeWidths, placesWithin}
-use Rattle.c_command_writer.proofs.Words.{turn, stop, each_step, each-end}
+use Rattle.c_command_writer.specs.Words.{within, each_place}
+use Rattle.c_descriptor_writer.specs.ItemWords.{places_in, place_widths, places_within}
+use Rattle.c_command_writer.proofs.Words.{turn, stop, each_step, each_end}
 use Rattle.c_descriptor_writer.proofs.beside.places_within.Statement.{statement}
 use Rattle.c_descriptor_writer.proofs.beside.places_within.Tie as tie
 
 abbrev invariant-loop : tie.invariant-loop
-invariant-loop count words widths i₀ i = (i ≤ count) × (eachPlace (within placeWidths) 2 (count - i) (drop (i * 2) (placesIn words)) ≡ placesWithin count words)
+invariant-loop count words widths i₀ i = (i ≤ count) × (each_place (within place_widths) 2 (count - i) (drop (i * 2) (places_in words)) ≡ places_within count words)
 
 abbrev decreases-loop : tie.decreases-loop
 decreases-loop count words widths i₀ i = count - i
 
 loop-holds : tie.Need-loop-init invariant-loop decreases-loop
-unfolding placesWithin
+unfolding places_within
 loop-holds c = let z : c.before.args.count - 0 ≡ c.before.args.count = omega arith in (omega arith, rw z)
 
 slice-aggregate-are-within : tie.Need-slice-aggregate-are-within invariant-loop decreases-loop
@@ -37,12 +37,12 @@ are-within-requires : tie.Need-are-within-requires invariant-loop decreases-loop
 are-within-requires c κs = omega arith
 
 returns : tie.Need-returns invariant-loop decreases-loop
-unfolding placesWithin placeWidths
+unfolding places_within place_widths
 returns c =
     let l = c.before.before.before.before.before in
     let a = l.before.before.args in
     let p = drop-drop (l.loop.i * 2) 5 a.words.now in
-    stop _ _ _ _ l.loop.invariant.1 (each_step (within placeWidths) 2 a.count (placesIn a.words.now) l.loop.i (omega arith)) (sym (c.before.are-within.ensures ∙ ap (within placeWidths) (c.before.before.words-from.ensures ∙ sym p)) ∙ not-true _ c.if1.true)
+    stop _ _ _ _ l.loop.invariant.1 (each_step (within place_widths) 2 a.count (places_in a.words.now) l.loop.i (omega arith)) (sym (c.before.are-within.ensures ∙ ap (within place_widths) (c.before.before.words-from.ensures ∙ sym p)) ∙ not-true _ c.if1.true)
 
 add-i : tie.Need-overflow-add-i invariant-loop decreases-loop
 add-i c = omega arith
@@ -51,21 +51,21 @@ loop-less : tie.Need-loop-smaller invariant-loop decreases-loop
 loop-less c = omega arith
 
 loop-again : tie.Need-loop-preserved invariant-loop decreases-loop
-unfolding placesWithin placeWidths
+unfolding places_within place_widths
 loop-again c =
     let l = c.before.before.before.before.before in
     let a = l.before.before.args in
     let p = drop-drop (l.loop.i * 2) 5 a.words.now in
-    (omega arith, turn _ _ _ _ l.loop.invariant.1 (each_step (within placeWidths) 2 a.count (placesIn a.words.now) l.loop.i (omega arith)) (sym (c.before.are-within.ensures ∙ ap (within placeWidths) (c.before.before.words-from.ensures ∙ sym p)) ∙ not-false _ c.if1.false))
+    (omega arith, turn _ _ _ _ l.loop.invariant.1 (each_step (within place_widths) 2 a.count (places_in a.words.now) l.loop.i (omega arith)) (sym (c.before.are-within.ensures ∙ ap (within place_widths) (c.before.before.words-from.ensures ∙ sym p)) ∙ not-false _ c.if1.false))
 
-returns-2 : tie.Need-returns-2 invariant-loop decreases-loop
-returns-2 c =
+returns_2 : tie.Need-returns-2 invariant-loop decreases-loop
+returns_2 c =
     let l = c.before in
     let a = l.before.before.args in
-    sym (each-end (within placeWidths) 2 a.count (drop (l.loop.i * 2) (placesIn a.words.now)) l.loop.i (omega arith)) ∙ l.loop.invariant.1
+    sym (each_end (within place_widths) 2 a.count (drop (l.loop.i * 2) (places_in a.words.now)) l.loop.i (omega arith)) ∙ l.loop.invariant.1
 
-pub places-within-spec : {M : Type 1} → statement M
-places-within-spec =
+pub places_within_spec : {M : Type 1} → statement M
+places_within_spec =
     tie.close
     (tie.spec
     invariant-loop
@@ -80,4 +80,4 @@ places-within-spec =
     add-i
     loop-less
     loop-again
-    returns-2)
+    returns_2)

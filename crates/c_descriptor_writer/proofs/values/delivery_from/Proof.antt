@@ -10,8 +10,8 @@ returns c = rw (eq-eqb _ _ c.if1.true)
 restrictions-from-requires : tie.Need-restrictions-from-requires
 restrictions-from-requires c κs = search rules
 
-returns-2 : tie.Need-returns-2
-returns-2 c = rw (ne_eqb _ _ c.before.before.if1.false, c.restrictions-from.ensures)
+returns_2 : tie.Need-returns-2
+returns_2 c = rw (ne_eqb _ _ c.before.before.if1.false, c.restrictions-from.ensures)
 
-pub delivery-from-spec : {M : Type 1} → statement M
-delivery-from-spec = tie.close (tie.spec returns restrictions-from-requires returns-2)
+pub delivery_from_spec : {M : Type 1} → statement M
+delivery_from_spec = tie.close (tie.spec returns restrictions-from-requires returns_2)

@@ -2,7 +2,7 @@
 use borrow.Author.Rules.{rules}
 use native.Mathlib.Omega.{arith}
 use borrow.Author.Tests.{ne_eqb}
-use Rattle.c_descriptor_writer.specs.ItemGiven.{descriptorFrom}
+use Rattle.c_descriptor_writer.specs.ItemGiven.{descriptor_from}
 use Rattle.c_descriptor_writer.proofs.values.descriptor_from.Statement.{statement}
 use Rattle.c_descriptor_writer.proofs.values.descriptor_from.Tie as tie
 
@@ -31,33 +31,33 @@ cast-t30 : tie.Need-overflow-cast-t30
 cast-t30 c = search rules
 
 returns : tie.Need-returns
-unfolding descriptorFrom
+unfolding descriptor_from
 returns c = rw c.before.match.keys1
 
-returns-2 : tie.Need-returns-2
-unfolding descriptorFrom
-returns-2 c = rw c.before.match.keys2
+returns_2 : tie.Need-returns-2
+unfolding descriptor_from
+returns_2 c = rw c.before.match.keys2
 
-returns-3 : tie.Need-returns-3
-unfolding descriptorFrom
-returns-3 c = rw (c.before.before.match.keys3, c.detail-from.ensures)
+returns_3 : tie.Need-returns-3
+unfolding descriptor_from
+returns_3 c = rw (c.before.before.match.keys3, c.detail-from.ensures)
 
-returns-4 : tie.Need-returns-4
-unfolding descriptorFrom
-returns-4 c = rw c.before.before.match.keys4
+returns_4 : tie.Need-returns-4
+unfolding descriptor_from
+returns_4 c = rw c.before.before.match.keys4
 
-returns-5 : tie.Need-returns-5
-unfolding descriptorFrom
-returns-5 c = rw c.before.match.keys5
+returns_5 : tie.Need-returns-5
+unfolding descriptor_from
+returns_5 c = rw c.before.match.keys5
 
 returns-6 : tie.Need-returns-6
-unfolding descriptorFrom
+unfolding descriptor_from
 returns-6 c =
     let k = c.before.before.before.before.before.args.i.kind in
     rw (ne_eqb k 2 (λ e. omega arith), ne_eqb k 3 (λ e. omega arith), ne_eqb k 4 (λ e. omega arith), ne_eqb k 5 (λ e. omega arith), ne_eqb k 6 (λ e. omega arith))
 
-pub descriptor-from-spec : {M : Type 1} → statement M
-descriptor-from-spec =
+pub descriptor_from_spec : {M : Type 1} → statement M
+descriptor_from_spec =
     tie.close
     (tie.spec
     cast-t11
@@ -69,8 +69,8 @@ descriptor-from-spec =
     cast-t28
     cast-t30
     returns
-    returns-2
-    returns-3
-    returns-4
-    returns-5
+    returns_2
+    returns_3
+    returns_4
+    returns_5
     returns-6)

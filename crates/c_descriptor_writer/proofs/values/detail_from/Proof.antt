@@ -1,6 +1,6 @@
 -- `c_descriptor_writer::values::detail_from` meets its contract.
 use borrow.Author.Rules.{rules}
-use Rattle.c_descriptor_writer.specs.ItemGiven.{detailFrom}
+use Rattle.c_descriptor_writer.specs.ItemGiven.{detail_from}
 use Rattle.c_descriptor_writer.proofs.values.detail_from.Statement.{statement}
 use Rattle.c_descriptor_writer.proofs.values.detail_from.Tie as tie
 
@@ -32,11 +32,11 @@ sub-segments-from-requires : tie.Need-sub-segments-from-requires
 sub-segments-from-requires c κs = search rules
 
 returns : tie.Need-returns
-unfolding detailFrom
+unfolding detail_from
 returns c = rw (c.sub-segments-from.ensures, c.before.before.before.from-id.ensures, c.before.before.before.before.before.before.duration-from.ensures, c.before.before.before.before.before.before.before.mode-from.ensures, c.before.before.before.before.before.before.before.before.delivery-from.ensures)
 
-pub detail-from-spec : {M : Type 1} → statement M
-detail-from-spec =
+pub detail_from_spec : {M : Type 1} → statement M
+detail_from_spec =
     tie.close
     (tie.spec
     delivery-from-requires

@@ -1,6 +1,6 @@
 -- `c_descriptor_writer::values::item_in` meets its contract.
 use borrow.Author.Rules.{rules}
-use Rattle.c_descriptor_writer.specs.ItemGiven.{itemIn}
+use Rattle.c_descriptor_writer.specs.ItemGiven.{item_in}
 use Rattle.c_descriptor_writer.proofs.values.item_in.Statement.{statement}
 use Rattle.c_descriptor_writer.proofs.values.item_in.Tie as tie
 
@@ -35,11 +35,11 @@ word-at-requires-9 : tie.Need-word-at-requires-9
 word-at-requires-9 c κs = search rules
 
 returns : tie.Need-returns
-unfolding itemIn
+unfolding item_in
 returns c = rw (c.word-at9.ensures, c.before.word-at8.ensures, c.before.before.word-at7.ensures, c.before.before.before.word-at6.ensures, c.before.before.before.before.word-at5.ensures, c.before.before.before.before.before.word-at4.ensures, c.before.before.before.before.before.before.segmentation-in.ensures, c.before.before.before.before.before.before.before.word-at3.ensures, c.before.before.before.before.before.before.before.before.word-at2.ensures, c.before.before.before.before.before.before.before.before.before.word_at.ensures)
 
-pub item-in-spec : {M : Type 1} → statement M
-item-in-spec =
+pub item_in_spec : {M : Type 1} → statement M
+item_in_spec =
     tie.close
     (tie.spec
     word-at-requires

@@ -10,8 +10,8 @@ returns c = rw (eq-eqb _ _ c.if1.true)
 cast-t4 : tie.Need-overflow-cast-t4
 cast-t4 c = search rules
 
-returns-2 : tie.Need-returns-2
-returns-2 c = rw (ne_eqb _ _ c.before.if1.false)
+returns_2 : tie.Need-returns-2
+returns_2 c = rw (ne_eqb _ _ c.before.if1.false)
 
-pub mode-from-spec : {M : Type 1} → statement M
-mode-from-spec = tie.close (tie.spec returns cast-t4 returns-2)
+pub mode_from_spec : {M : Type 1} → statement M
+mode_from_spec = tie.close (tie.spec returns cast-t4 returns_2)

@@ -1,6 +1,6 @@
 -- `c_descriptor_writer::values::restrictions_in` meets its contract.
 use borrow.Author.Rules.{rules}
-use Rattle.c_descriptor_writer.specs.ItemGiven.{restrictionsIn}
+use Rattle.c_descriptor_writer.specs.ItemGiven.{restrictions_in}
 use Rattle.c_descriptor_writer.proofs.values.restrictions_in.Statement.{statement}
 use Rattle.c_descriptor_writer.proofs.values.restrictions_in.Tie as tie
 
@@ -17,10 +17,10 @@ word-at-requires-4 : tie.Need-word-at-requires-4
 word-at-requires-4 c κs = search rules
 
 returns : tie.Need-returns
-unfolding restrictionsIn
+unfolding restrictions_in
 returns c = rw (c.word-at4.ensures, c.before.word-at3.ensures, c.before.before.word-at2.ensures, c.before.before.before.word_at.ensures)
 
-pub restrictions-in-spec : {M : Type 1} → statement M
-restrictions-in-spec =
+pub restrictions_in_spec : {M : Type 1} → statement M
+restrictions_in_spec =
     tie.close
     (tie.spec word-at-requires word-at-requires-2 word-at-requires-3 word-at-requires-4 returns)

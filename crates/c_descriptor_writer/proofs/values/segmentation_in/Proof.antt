@@ -1,6 +1,6 @@
 -- `c_descriptor_writer::values::segmentation_in` meets its contract.
 use borrow.Author.Rules.{rules}
-use Rattle.c_descriptor_writer.specs.ItemGiven.{segmentationIn}
+use Rattle.c_descriptor_writer.specs.ItemGiven.{segmentation_in}
 use Rattle.c_descriptor_writer.proofs.values.segmentation_in.Statement.{statement}
 use Rattle.c_descriptor_writer.proofs.values.segmentation_in.Tie as tie
 
@@ -44,11 +44,11 @@ sub-segments-in-requires : tie.Need-sub-segments-in-requires
 sub-segments-in-requires c κs = search rules
 
 returns : tie.Need-returns
-unfolding segmentationIn
+unfolding segmentation_in
 returns c = rw (c.sub-segments-in.ensures, c.before.word-at11.ensures, c.before.before.word-at10.ensures, c.before.before.before.word-at9.ensures, c.before.before.before.before.word-at8.ensures, c.before.before.before.before.before.word-at7.ensures, c.before.before.before.before.before.before.word-at6.ensures, c.before.before.before.before.before.before.before.restrictions-in.ensures, c.before.before.before.before.before.before.before.before.word-at5.ensures, c.before.before.before.before.before.before.before.before.before.word-at4.ensures, c.before.before.before.before.before.before.before.before.before.before.word-at3.ensures, c.before.before.before.before.before.before.before.before.before.before.before.word-at2.ensures, c.before.before.before.before.before.before.before.before.before.before.before.before.word_at.ensures)
 
-pub segmentation-in-spec : {M : Type 1} → statement M
-segmentation-in-spec =
+pub segmentation_in_spec : {M : Type 1} → statement M
+segmentation_in_spec =
     tie.close
     (tie.spec
     word-at-requires

@@ -13,8 +13,8 @@ cast-t6 c = search rules
 returns : tie.Need-returns
 returns c = rw (eq-eqb _ _ c.before.before.if1.true)
 
-returns-2 : tie.Need-returns-2
-returns-2 c = rw (ne_eqb _ _ c.if1.false)
+returns_2 : tie.Need-returns-2
+returns_2 c = rw (ne_eqb _ _ c.if1.false)
 
-pub sub-segments-from-spec : {M : Type 1} → statement M
-sub-segments-from-spec = tie.close (tie.spec cast-t4 cast-t6 returns returns-2)
+pub sub_segments_from_spec : {M : Type 1} → statement M
+sub_segments_from_spec = tie.close (tie.spec cast-t4 cast-t6 returns returns_2)

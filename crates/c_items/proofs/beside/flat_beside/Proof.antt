@@ -1,6 +1,6 @@
 -- `c_items::beside::flat_beside` meets its contract.
 use borrow.Author.Rules.{rules}
-use Rattle.c_items.specs.FlatItem.{flatBeside}
+use Rattle.c_items.specs.FlatItem.{flat_beside}
 use Rattle.c_items.proofs.beside.flat_beside.Statement.{statement}
 use Rattle.c_items.proofs.beside.flat_beside.Tie as tie
 
@@ -20,11 +20,11 @@ flat-eidr-requires : tie.Need-flat-eidr-requires
 flat-eidr-requires c κs = search rules
 
 returns : tie.Need-returns
-unfolding flatBeside
+unfolding flat_beside
 returns c = rw (c.before.before.before.before.before.before.before.before.flat-item.ensures, c.before.before.before.refusal-number.ensures, c.before.before.refusal-values.ensures, c.before.flat-components.ensures, c.flat-eidr.ensures)
 
-pub flat-beside-spec : {M : Type 1} → statement M
-flat-beside-spec =
+pub flat_beside_spec : {M : Type 1} → statement M
+flat_beside_spec =
     tie.close
     (tie.spec
     flat-item-requires

@@ -6,18 +6,18 @@ use native.Mathlib.Omega.{arith}
 use lib.Seq.{paste, paste-zero}
 use lib.ListN.{length}
 use borrow.Author.Rules.{rules}
-use Rattle.c_items.specs.FlatItem.{flatComponent}
-use Rattle.c_items.specs.Private.{noComponents}
-use Rattle.c_section.proofs.Arrays.{mapped-turn, mapped-all}
+use Rattle.c_items.specs.FlatItem.{flat_component}
+use Rattle.c_items.specs.Private.{no_components}
+use Rattle.c_section.proofs.Arrays.{mapped_turn, mapped_all}
 use Rattle.c_items.proofs.beside.flat_components.Statement.{statement}
 use Rattle.c_items.proofs.beside.flat_components.Tie as tie
 
-empty-length : length noComponents ≡ 255
-unfolding noComponents
-empty-length = refl
+empty_length : length no_components ≡ 255
+unfolding no_components
+empty_length = refl
 
 abbrev invariant-loop : tie.invariant-loop
-invariant-loop cs out₀ i₀ out i = (i ≤ 255) × (length cs ≡ 255) × (out ≡ paste noComponents 0 (map flatComponent cs) i)
+invariant-loop cs out₀ i₀ out i = (i ≤ 255) × (length cs ≡ 255) × (out ≡ paste no_components 0 (map flat_component cs) i)
 
 abbrev decreases-loop : tie.decreases-loop
 decreases-loop cs out₀ i₀ out i = 255 - i
@@ -26,7 +26,7 @@ no-components-requires : tie.Need-no-components-requires invariant-loop decrease
 no-components-requires c κs = search rules
 
 loop-holds : tie.Need-loop-init invariant-loop decreases-loop
-loop-holds c = (omega arith, search rules, c.no-components.ensures ∙ paste-zero noComponents 0 (map flatComponent c.before.args.t1))
+loop-holds c = (omega arith, search rules, c.no-components.ensures ∙ paste-zero no_components 0 (map flat_component c.before.args.t1))
 
 mul-c : tie.Need-overflow-mul-c invariant-loop decreases-loop
 mul-c c = search rules
@@ -52,15 +52,15 @@ loop-less c = search rules
 loop-again : tie.Need-loop-preserved invariant-loop decreases-loop
 loop-again c =
     let l = c.before.before.before in
-    (omega arith, l.loop.invariant.1, mapped-turn 255 flatComponent noComponents l.loop.out l.before.before.args.t1 l.loop.i _ _ empty-length l.loop.invariant.1 (omega arith) c.flat-component.ensures l.loop.invariant.2)
+    (omega arith, l.loop.invariant.1, mapped_turn 255 flat_component no_components l.loop.out l.before.before.args.t1 l.loop.i _ _ empty_length l.loop.invariant.1 (omega arith) c.flat-component.ensures l.loop.invariant.2)
 
 returns : tie.Need-returns invariant-loop decreases-loop
 returns c =
     let l = c.before in
-    mapped-all 255 flatComponent noComponents l.loop.out l.before.before.args.t1 l.loop.i empty-length l.loop.invariant.1 (omega arith) l.loop.invariant.2
+    mapped_all 255 flat_component no_components l.loop.out l.before.before.args.t1 l.loop.i empty_length l.loop.invariant.1 (omega arith) l.loop.invariant.2
 
-pub flat-components-spec : {M : Type 1} → statement M
-flat-components-spec =
+pub flat_components_spec : {M : Type 1} → statement M
+flat_components_spec =
     tie.close
     (tie.spec
     invariant-loop

@@ -1,5 +1,5 @@
 -- `c_items::descriptors::active_item` meets its contract.
-use Rattle.c_items.specs.FlatItem.{blankItem, segmentationItem}
+use Rattle.c_items.specs.FlatItem.{blank_item, segmentation_item}
 use borrow.Author.Rules.{rules}
 use Rattle.c_items.proofs.descriptors.active_item.Statement.{statement}
 use Rattle.c_items.proofs.descriptors.active_item.Tie as tie
@@ -14,9 +14,9 @@ flat-view-requires : tie.Need-flat-view-requires
 flat-view-requires c κs = search rules
 
 returns : tie.Need-returns
-unfolding blankItem segmentationItem
+unfolding blank_item segmentation_item
 returns c = rw (c.before.before.blank-item.ensures, c.before.active-segmentation.ensures, c.flat_view.ensures)
 
-pub active-item-spec : {M : Type 1} → statement M
-active-item-spec =
+pub active_item_spec : {M : Type 1} → statement M
+active_item_spec =
     tie.close (tie.spec blank-item-requires active-segmentation-requires flat-view-requires returns)

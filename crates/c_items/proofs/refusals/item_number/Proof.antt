@@ -17,9 +17,9 @@ returns : tie.Need-returns
 unfolding number_of
 returns c = rw c.enum_told.given.1
 
-returns-2 : tie.Need-returns-2
+returns_2 : tie.Need-returns-2
 unfolding number_of
-returns-2 c = rw c.before.before.r.given.1 c.number.ensures
+returns_2 c = rw c.before.before.r.given.1 c.number.ensures
 
-pub item-number-spec : {M : Type 1} → statement M
-item-number-spec = tie.close (tie.spec enum_told enum-known-r number-requires returns returns-2)
+pub item_number_spec : {M : Type 1} → statement M
+item_number_spec = tie.close (tie.spec enum_told enum-known-r number-requires returns returns_2)

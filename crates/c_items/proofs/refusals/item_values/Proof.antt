@@ -17,9 +17,9 @@ returns : tie.Need-returns
 unfolding values_of
 returns c = rw c.enum_told.given.1
 
-returns-2 : tie.Need-returns-2
+returns_2 : tie.Need-returns-2
 unfolding values_of
-returns-2 c = rw c.before.before.r.given.1 c.values.ensures
+returns_2 c = rw c.before.before.r.given.1 c.values.ensures
 
-pub item-values-spec : {M : Type 1} → statement M
-item-values-spec = tie.close (tie.spec enum_told enum-known-r values-requires returns returns-2)
+pub item_values_spec : {M : Type 1} → statement M
+item_values_spec = tie.close (tie.spec enum_told enum-known-r values-requires returns returns_2)

@@ -29,24 +29,24 @@ returns : tie.Need-returns
 unfolding values_of
 returns c = rw c.enum_told.given.1
 
-returns-2 : tie.Need-returns-2
+returns_2 : tie.Need-returns-2
 unfolding values_of
-returns-2 c = rw c.before.r.given.1
+returns_2 c = rw c.before.r.given.1
 
-returns-3 : tie.Need-returns-3
+returns_3 : tie.Need-returns-3
 unfolding values_of
-returns-3 c = rw c.enum-told2.given.1
+returns_3 c = rw c.enum-told2.given.1
 
-returns-4 : tie.Need-returns-4
+returns_4 : tie.Need-returns-4
 unfolding values_of
-returns-4 c = rw c.before.r2.given.1
+returns_4 c = rw c.before.r2.given.1
 
-returns-5 : tie.Need-returns-5
+returns_5 : tie.Need-returns-5
 unfolding values_of
-returns-5 c = rw c.before.r3.given.1
+returns_5 c = rw c.before.r3.given.1
 
-pub values-spec : {M : Type 1} → statement M
-values-spec =
+pub values_spec : {M : Type 1} → statement M
+values_spec =
     tie.close
     (tie.spec
     enum_told
@@ -57,7 +57,7 @@ values-spec =
     enum-known-r-3
     cast-t15
     returns
-    returns-2
-    returns-3
-    returns-4
-    returns-5)
+    returns_2
+    returns_3
+    returns_4
+    returns_5)

@@ -1,6 +1,6 @@
 -- `c_items::segmentations::active_segmentation` meets its contract.
 use borrow.Author.Rules.{rules}
-use Rattle.c_items.specs.FlatItem.{activeSegmentation}
+use Rattle.c_items.specs.FlatItem.{active_segmentation}
 use Rattle.c_items.proofs.segmentations.active_segmentation.Statement.{statement}
 use Rattle.c_items.proofs.segmentations.active_segmentation.Tie as tie
 
@@ -41,11 +41,11 @@ flat-sub-segments-requires : tie.Need-flat-sub-segments-requires
 flat-sub-segments-requires c κs = search rules
 
 returns : tie.Need-returns
-unfolding activeSegmentation
+unfolding active_segmentation
 returns c = rw (c.before.before.before.before.before.before.before.before.before.before.flat-flag.ensures, c.before.before.before.before.before.before.before.before.before.flat-flag2.ensures, c.before.before.before.before.before.before.before.before.flat-flag3.ensures, c.before.before.before.before.before.before.before.flat-restrictions.ensures, c.before.before.before.before.before.before.component-count.ensures, c.before.before.before.before.before.duration.ensures, c.before.before.before.id.ensures, c.flat-sub-segments.ensures)
 
-pub active-segmentation-spec : {M : Type 1} → statement M
-active-segmentation-spec =
+pub active_segmentation_spec : {M : Type 1} → statement M
+active_segmentation_spec =
     tie.close
     (tie.spec
     flat-flag-requires

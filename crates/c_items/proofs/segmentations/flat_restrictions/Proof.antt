@@ -1,6 +1,6 @@
 -- `c_items::segmentations::flat_restrictions` meets its contract.
 use borrow.Author.Rules.{rules}
-use Rattle.c_items.specs.FlatItem.{flatRestrictions}
+use Rattle.c_items.specs.FlatItem.{flat_restrictions}
 use Rattle.c_items.proofs.segmentations.flat_restrictions.Statement.{statement}
 use Rattle.c_items.proofs.segmentations.flat_restrictions.Tie as tie
 
@@ -26,15 +26,15 @@ cast-t9 : tie.Need-overflow-cast-t9
 cast-t9 c = search rules
 
 returns : tie.Need-returns
-unfolding flatRestrictions
+unfolding flat_restrictions
 returns c = rw c.enum_told.given.1
 
-returns-2 : tie.Need-returns-2
-unfolding flatRestrictions
-returns-2 c = rw (c.before.before.before.before.before.flags.given.1, c.before.before.before.flat-flag.ensures, c.before.before.flat-flag2.ensures, c.before.flat-flag3.ensures, c.bits.ensures)
+returns_2 : tie.Need-returns-2
+unfolding flat_restrictions
+returns_2 c = rw (c.before.before.before.before.before.flags.given.1, c.before.before.before.flat-flag.ensures, c.before.before.flat-flag2.ensures, c.before.flat-flag3.ensures, c.bits.ensures)
 
-pub flat-restrictions-spec : {M : Type 1} → statement M
-flat-restrictions-spec =
+pub flat_restrictions_spec : {M : Type 1} → statement M
+flat_restrictions_spec =
     tie.close
     (tie.spec
     enum_told
@@ -45,4 +45,4 @@ flat-restrictions-spec =
     bits-requires
     cast-t9
     returns
-    returns-2)
+    returns_2)

@@ -1,6 +1,6 @@
 -- `c_items::segmentations::segmentation_head` meets its contract.
 use borrow.Author.Rules.{rules}
-use Rattle.c_items.specs.FlatItem.{segmentationHead}
+use Rattle.c_items.specs.FlatItem.{segmentation_head}
 use Rattle.c_items.proofs.segmentations.segmentation_head.Statement.{statement}
 use Rattle.c_items.proofs.segmentations.segmentation_head.Tie as tie
 
@@ -11,9 +11,9 @@ flat-sub-segments-requires : tie.Need-flat-sub-segments-requires
 flat-sub-segments-requires c κs = search rules
 
 returns : tie.Need-returns
-unfolding segmentationHead
+unfolding segmentation_head
 returns c = rw (c.before.flat-restrictions.ensures, c.flat-sub-segments.ensures)
 
-pub segmentation-head-spec : {M : Type 1} → statement M
-segmentation-head-spec =
+pub segmentation_head_spec : {M : Type 1} → statement M
+segmentation_head_spec =
     tie.close (tie.spec flat-restrictions-requires flat-sub-segments-requires returns)

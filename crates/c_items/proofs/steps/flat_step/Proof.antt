@@ -1,7 +1,7 @@
 -- `c_items::steps::flat_step` meets its contract.
 use native.Mathlib.Omega.{arith}
 use borrow.Author.Rules.{rules}
-use Rattle.c_items.specs.FlatItem.{flatStep}
+use Rattle.c_items.specs.FlatItem.{flat_step}
 use Rattle.table.proofs.Reading.{bits_are}
 use Rattle.c_items.proofs.steps.flat_step.Statement.{statement}
 use Rattle.c_items.proofs.steps.flat_step.Tie as tie
@@ -22,11 +22,11 @@ flat-item-requires : tie.Need-flat-item-requires
 flat-item-requires c κs = search rules
 
 returns : tie.Need-returns
-unfolding flatStep
+unfolding flat_step
 returns c = rw (c.before.before.before.before.refusal-number.ensures, c.before.before.before.refusal-values.ensures, (bits_are c.before.before.before.before.before.before.args.s.identifier 0 32 _ (omega arith) c.before.big_endian.ensures).0, c.flat-item.ensures)
 
-pub flat-step-spec : {M : Type 1} → statement M
-flat-step-spec =
+pub flat_step_spec : {M : Type 1} → statement M
+flat_step_spec =
     tie.close
     (tie.spec
     refusal-number-requires

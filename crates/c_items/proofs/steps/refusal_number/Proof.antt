@@ -1,6 +1,6 @@
 -- `c_items::steps::refusal_number` meets its contract.
 use borrow.Author.Rules.{rules}
-use Rattle.c_items.specs.FlatItem.{refusalIn}
+use Rattle.c_items.specs.FlatItem.{refusal_in}
 use Rattle.c_items.proofs.steps.refusal_number.Statement.{statement}
 use Rattle.c_items.proofs.steps.refusal_number.Tie as tie
 
@@ -17,19 +17,19 @@ enum-told-2 : tie.Need-enum-told-2
 enum-told-2 c = search rules
 
 returns : tie.Need-returns
-unfolding refusalIn
+unfolding refusal_in
 returns c = rw c.enum_told.given.1
 
-returns-2 : tie.Need-returns-2
-unfolding refusalIn
-returns-2 c = rw c.before.before.item.given.1 c.item-number.ensures
+returns_2 : tie.Need-returns-2
+unfolding refusal_in
+returns_2 c = rw c.before.before.item.given.1 c.item-number.ensures
 
-returns-3 : tie.Need-returns-3
-unfolding refusalIn
-returns-3 c = rw c.enum-told2.given.1
+returns_3 : tie.Need-returns-3
+unfolding refusal_in
+returns_3 c = rw c.enum-told2.given.1
 
-pub refusal-number-spec : {M : Type 1} → statement M
-refusal-number-spec =
+pub refusal_number_spec : {M : Type 1} → statement M
+refusal_number_spec =
     tie.close
     (tie.spec
     enum_told
@@ -37,5 +37,5 @@ refusal-number-spec =
     item-number-requires
     enum-told-2
     returns
-    returns-2
-    returns-3)
+    returns_2
+    returns_3)

@@ -1,6 +1,6 @@
 -- `c_items::steps::refusal_values` meets its contract.
 use borrow.Author.Rules.{rules}
-use Rattle.c_items.specs.FlatItem.{valuesIn}
+use Rattle.c_items.specs.FlatItem.{values_in}
 use Rattle.c_items.proofs.steps.refusal_values.Statement.{statement}
 use Rattle.c_items.proofs.steps.refusal_values.Tie as tie
 
@@ -17,19 +17,19 @@ enum-told-2 : tie.Need-enum-told-2
 enum-told-2 c = search rules
 
 returns : tie.Need-returns
-unfolding valuesIn
+unfolding values_in
 returns c = rw c.enum_told.given.1
 
-returns-2 : tie.Need-returns-2
-unfolding valuesIn
-returns-2 c = rw c.before.before.item.given.1 c.item-values.ensures
+returns_2 : tie.Need-returns-2
+unfolding values_in
+returns_2 c = rw c.before.before.item.given.1 c.item-values.ensures
 
-returns-3 : tie.Need-returns-3
-unfolding valuesIn
-returns-3 c = rw c.enum-told2.given.1
+returns_3 : tie.Need-returns-3
+unfolding values_in
+returns_3 c = rw c.enum-told2.given.1
 
-pub refusal-values-spec : {M : Type 1} → statement M
-refusal-values-spec =
+pub refusal_values_spec : {M : Type 1} → statement M
+refusal_values_spec =
     tie.close
     (tie.spec
     enum_told
@@ -37,5 +37,5 @@ refusal-values-spec =
     item-values-requires
     enum-told-2
     returns
-    returns-2
-    returns-3)
+    returns_2
+    returns_3)

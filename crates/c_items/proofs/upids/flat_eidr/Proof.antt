@@ -5,7 +5,7 @@ use native.Mathlib.Omega.{arith}
 use lib.Seq.{paste, paste-zero}
 use lib.ListN.{length, replicate}
 use borrow.Author.Rules.{rules}
-use Rattle.c_section.proofs.Arrays.{filled-turn, filled-all}
+use Rattle.c_section.proofs.Arrays.{filled_turn, filled_all}
 use Rattle.c_items.proofs.upids.flat_eidr.Statement.{statement}
 use Rattle.c_items.proofs.upids.flat_eidr.Tie as tie
 
@@ -40,16 +40,16 @@ loop-again : tie.Need-loop-preserved invariant-loop decreases-loop
 loop-again c =
     let l = c.before in
     let i : l.loop.i < 12 = omega arith in
-    (omega arith, l.loop.invariant.1, filled-turn (replicate 12 0) l.before.args.t1 l.loop.out l.loop.i _ 0 i (rw l.loop.invariant.1 i) refl l.loop.invariant.2)
+    (omega arith, l.loop.invariant.1, filled_turn (replicate 12 0) l.before.args.t1 l.loop.out l.loop.i _ 0 i (rw l.loop.invariant.1 i) refl l.loop.invariant.2)
 
 returns : tie.Need-returns invariant-loop decreases-loop
 returns c =
     let l = c.before in
     let i : 12 ≤ l.loop.i = omega arith in
-    filled-all (replicate 12 0) l.before.args.t1 l.loop.out l.loop.i (rw l.loop.invariant.1 i) i l.loop.invariant.2
+    filled_all (replicate 12 0) l.before.args.t1 l.loop.out l.loop.i (rw l.loop.invariant.1 i) i l.loop.invariant.2
 
-pub flat-eidr-spec : {M : Type 1} → statement M
-flat-eidr-spec =
+pub flat_eidr_spec : {M : Type 1} → statement M
+flat_eidr_spec =
     tie.close
     (tie.spec
     invariant-loop

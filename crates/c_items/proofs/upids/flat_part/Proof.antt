@@ -1,7 +1,7 @@
 -- `c_items::upids::flat_part` meets its contract.
 use mathlib.Core.Path.{refl}
 use borrow.Author.Rules.{rules}
-use Rattle.c_items.specs.FlatUpid.{flatPart}
+use Rattle.c_items.specs.FlatUpid.{flat_part}
 use Rattle.c_items.proofs.upids.flat_part.Statement.{statement}
 use Rattle.c_items.proofs.upids.flat_part.Tie as tie
 
@@ -18,8 +18,8 @@ cast-t5 : tie.Need-overflow-cast-t5
 cast-t5 c = search rules
 
 returns : tie.Need-returns
-unfolding flatPart
+unfolding flat_part
 returns c = refl
 
-pub flat-part-spec : {M : Type 1} → statement M
-flat-part-spec = tie.close (tie.spec cast-t2 cast-t3 cast-t4 cast-t5 returns)
+pub flat_part_spec : {M : Type 1} → statement M
+flat_part_spec = tie.close (tie.spec cast-t2 cast-t3 cast-t4 cast-t5 returns)

@@ -6,17 +6,17 @@ use native.Mathlib.Omega.{arith}
 use lib.Seq.{paste, paste-zero}
 use lib.ListN.{length}
 use borrow.Author.Rules.{rules}
-use Rattle.c_items.specs.FlatUpid.{flatPart, noParts}
-use Rattle.c_section.proofs.Arrays.{mapped-turn, mapped-all}
+use Rattle.c_items.specs.FlatUpid.{flat_part, no_parts}
+use Rattle.c_section.proofs.Arrays.{mapped_turn, mapped_all}
 use Rattle.c_items.proofs.upids.flat_parts.Statement.{statement}
 use Rattle.c_items.proofs.upids.flat_parts.Tie as tie
 
-empty-length : length noParts ≡ 127
-unfolding noParts
-empty-length = refl
+empty_length : length no_parts ≡ 127
+unfolding no_parts
+empty_length = refl
 
 abbrev invariant-loop : tie.invariant-loop
-invariant-loop ps out₀ i₀ out i = (i ≤ 127) × (length ps ≡ 127) × (out ≡ paste noParts 0 (map flatPart ps) i)
+invariant-loop ps out₀ i₀ out i = (i ≤ 127) × (length ps ≡ 127) × (out ≡ paste no_parts 0 (map flat_part ps) i)
 
 abbrev decreases-loop : tie.decreases-loop
 decreases-loop ps out₀ i₀ out i = 127 - i
@@ -25,7 +25,7 @@ no-parts-requires : tie.Need-no-parts-requires invariant-loop decreases-loop
 no-parts-requires c κs = search rules
 
 loop-holds : tie.Need-loop-init invariant-loop decreases-loop
-loop-holds c = (omega arith, search rules, c.no-parts.ensures ∙ paste-zero noParts 0 (map flatPart c.before.args.t1))
+loop-holds c = (omega arith, search rules, c.no-parts.ensures ∙ paste-zero no_parts 0 (map flat_part c.before.args.t1))
 
 mul-p : tie.Need-overflow-mul-p invariant-loop decreases-loop
 mul-p c = search rules
@@ -51,15 +51,15 @@ loop-less c = search rules
 loop-again : tie.Need-loop-preserved invariant-loop decreases-loop
 loop-again c =
     let l = c.before.before.before in
-    (omega arith, l.loop.invariant.1, mapped-turn 127 flatPart noParts l.loop.out l.before.before.args.t1 l.loop.i _ _ empty-length l.loop.invariant.1 (omega arith) c.flat-part.ensures l.loop.invariant.2)
+    (omega arith, l.loop.invariant.1, mapped_turn 127 flat_part no_parts l.loop.out l.before.before.args.t1 l.loop.i _ _ empty_length l.loop.invariant.1 (omega arith) c.flat-part.ensures l.loop.invariant.2)
 
 returns : tie.Need-returns invariant-loop decreases-loop
 returns c =
     let l = c.before in
-    mapped-all 127 flatPart noParts l.loop.out l.before.before.args.t1 l.loop.i empty-length l.loop.invariant.1 (omega arith) l.loop.invariant.2
+    mapped_all 127 flat_part no_parts l.loop.out l.before.before.args.t1 l.loop.i empty_length l.loop.invariant.1 (omega arith) l.loop.invariant.2
 
-pub flat-parts-spec : {M : Type 1} → statement M
-flat-parts-spec =
+pub flat_parts_spec : {M : Type 1} → statement M
+flat_parts_spec =
     tie.close
     (tie.spec
     invariant-loop

@@ -1,6 +1,6 @@
 -- `c_items::upids::flat_upid` meets its contract.
 use borrow.Author.Rules.{rules}
-use Rattle.c_items.specs.FlatUpid.{flatUpid, flatUpidRead}
+use Rattle.c_items.specs.FlatUpid.{flat_upid, flat_upid_read}
 use Rattle.c_items.proofs.upids.flat_upid.Statement.{statement}
 use Rattle.c_items.proofs.upids.flat_upid.Tie as tie
 
@@ -29,15 +29,15 @@ no-parts-requires : tie.Need-no-parts-requires
 no-parts-requires c κs = search rules
 
 returns : tie.Need-returns
-unfolding flatUpid flatUpidRead
+unfolding flat_upid flat_upid_read
 returns c = rw (c.before.before.before.before.before.before.read.given.1, c.before.flat-eidr.ensures, c.flat-parts.ensures)
 
-returns-2 : tie.Need-returns-2
-unfolding flatUpid flatUpidRead
-returns-2 c = rw (c.before.before.before.before.read2.given.1, c.before.before.number.ensures, c.before.values.ensures, c.no-parts.ensures)
+returns_2 : tie.Need-returns-2
+unfolding flat_upid flat_upid_read
+returns_2 c = rw (c.before.before.before.before.read2.given.1, c.before.before.number.ensures, c.before.values.ensures, c.no-parts.ensures)
 
-pub flat-upid-spec : {M : Type 1} → statement M
-flat-upid-spec =
+pub flat_upid_spec : {M : Type 1} → statement M
+flat_upid_spec =
     tie.close
     (tie.spec
     enum-known-read
@@ -49,4 +49,4 @@ flat-upid-spec =
     values-requires
     no-parts-requires
     returns
-    returns-2)
+    returns_2)

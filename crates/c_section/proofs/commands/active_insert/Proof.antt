@@ -1,6 +1,6 @@
 -- `c_section::commands::active_insert` meets its contract.
 use borrow.Author.Rules.{rules}
-use Rattle.c_section.specs.FlatCommand.{activeInsert}
+use Rattle.c_section.specs.FlatCommand.{active_insert}
 use Rattle.c_section.proofs.commands.active_insert.Statement.{statement}
 use Rattle.c_section.proofs.commands.active_insert.Tie as tie
 
@@ -26,11 +26,11 @@ cast-t13 : tie.Need-overflow-cast-t13
 cast-t13 c = search rules
 
 returns : tie.Need-returns
-unfolding activeInsert
+unfolding active_insert
 returns c = rw (c.before.before.before.before.before.flag.ensures, c.before.before.before.before.flat-mode.ensures, c.before.before.before.flat-break.ensures)
 
-pub active-insert-spec : {M : Type 1} → statement M
-active-insert-spec =
+pub active_insert_spec : {M : Type 1} → statement M
+active_insert_spec =
     tie.close
     (tie.spec
     flag-requires

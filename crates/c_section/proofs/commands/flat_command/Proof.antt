@@ -1,7 +1,7 @@
 -- `c_section::commands::flat_command` meets its contract.
 use mathlib.Core.Path.{◌≡◌, ap, sym, ◌∙◌}
 use borrow.Author.Rules.{rules}
-use Rattle.c_section.specs.FlatCommand.{flatCommand}
+use Rattle.c_section.specs.FlatCommand.{flat_command}
 use Rattle.c_section.proofs.commands.flat_command.Statement.{statement}
 use Rattle.c_section.proofs.commands.flat_command.Tie as tie
 
@@ -45,27 +45,27 @@ flat-view-requires : tie.Need-flat-view-requires
 flat-view-requires c κs = search rules
 
 returns : tie.Need-returns
-unfolding flatCommand
-returns c = c.no-command.ensures ∙ ap flatCommand (sym c.before.enum_told.given.1)
+unfolding flat_command
+returns c = c.no-command.ensures ∙ ap flat_command (sym c.before.enum_told.given.1)
 
-returns-2 : tie.Need-returns-2
-unfolding flatCommand
-returns-2 c = rw (c.before.before.c.given.1, c.flat-insert.ensures)
+returns_2 : tie.Need-returns-2
+unfolding flat_command
+returns_2 c = rw (c.before.before.c.given.1, c.flat-insert.ensures)
 
-returns-3 : tie.Need-returns-3
-unfolding flatCommand
-returns-3 c = rw (c.before.before.before.c2.given.1, c.before.insert-head.ensures, c.flat-time.ensures)
+returns_3 : tie.Need-returns-3
+unfolding flat_command
+returns_3 c = rw (c.before.before.before.c2.given.1, c.before.insert-head.ensures, c.flat-time.ensures)
 
-returns-4 : tie.Need-returns-4
-unfolding flatCommand
-returns-4 c = c.no-command2.ensures ∙ ap flatCommand (sym c.before.enum-told2.given.1)
+returns_4 : tie.Need-returns-4
+unfolding flat_command
+returns_4 c = c.no-command2.ensures ∙ ap flat_command (sym c.before.enum-told2.given.1)
 
-returns-5 : tie.Need-returns-5
-unfolding flatCommand
-returns-5 c = rw (c.before.before.before.before.before.c3.given.1, c.before.before.insert-head2.ensures, c.flat_view.ensures)
+returns_5 : tie.Need-returns-5
+unfolding flat_command
+returns_5 c = rw (c.before.before.before.before.before.c3.given.1, c.before.before.insert-head2.ensures, c.flat_view.ensures)
 
-pub flat-command-spec : {M : Type 1} → statement M
-flat-command-spec =
+pub flat_command_spec : {M : Type 1} → statement M
+flat_command_spec =
     tie.close
     (tie.spec
     enum_told
@@ -82,7 +82,7 @@ flat-command-spec =
     cast-t15
     flat-view-requires
     returns
-    returns-2
-    returns-3
-    returns-4
-    returns-5)
+    returns_2
+    returns_3
+    returns_4
+    returns_5)

@@ -1,7 +1,7 @@
 -- `c_section::commands::flat_command_read` meets its contract.
 use mathlib.Core.Path.{◌≡◌, ap, sym, ◌∙◌}
 use borrow.Author.Rules.{rules}
-use Rattle.c_section.specs.FlatCommand.{flatCommandRead}
+use Rattle.c_section.specs.FlatCommand.{flat_command_read}
 use Rattle.c_section.proofs.commands.flat_command_read.Statement.{statement}
 use Rattle.c_section.proofs.commands.flat_command_read.Tie as tie
 
@@ -36,19 +36,19 @@ no-command-requires-2 : tie.Need-no-command-requires-2
 no-command-requires-2 c κs = search rules
 
 returns : tie.Need-returns
-unfolding flatCommandRead
-returns c = c.flat-command.ensures ∙ ap flatCommandRead (sym c.before.before.read.given.1)
+unfolding flat_command_read
+returns c = c.flat-command.ensures ∙ ap flat_command_read (sym c.before.before.read.given.1)
 
-returns-2 : tie.Need-returns-2
-unfolding flatCommandRead
-returns-2 c = rw (c.no-command.ensures, c.before.number.ensures, c.before.before.enum_told.given.1)
+returns_2 : tie.Need-returns-2
+unfolding flat_command_read
+returns_2 c = rw (c.no-command.ensures, c.before.number.ensures, c.before.before.enum_told.given.1)
 
-returns-3 : tie.Need-returns-3
-unfolding flatCommandRead
-returns-3 c = rw (c.no-command2.ensures, c.before.number2.ensures, c.before.before.enum-told2.given.1)
+returns_3 : tie.Need-returns-3
+unfolding flat_command_read
+returns_3 c = rw (c.no-command2.ensures, c.before.number2.ensures, c.before.before.enum-told2.given.1)
 
-pub flat-command-read-spec : {M : Type 1} → statement M
-flat-command-read-spec =
+pub flat_command_read_spec : {M : Type 1} → statement M
+flat_command_read_spec =
     tie.close
     (tie.spec
     enum-known-read
@@ -62,5 +62,5 @@ flat-command-read-spec =
     cast-no-command-2
     no-command-requires-2
     returns
-    returns-2
-    returns-3)
+    returns_2
+    returns_3)

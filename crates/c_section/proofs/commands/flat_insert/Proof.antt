@@ -1,6 +1,6 @@
 -- `c_section::commands::flat_insert` meets its contract.
 use borrow.Author.Rules.{rules}
-use Rattle.c_section.specs.FlatCommand.{flatInsertion}
+use Rattle.c_section.specs.FlatCommand.{flat_insertion}
 use Rattle.c_section.proofs.commands.flat_insert.Statement.{statement}
 use Rattle.c_section.proofs.commands.flat_insert.Tie as tie
 
@@ -29,15 +29,15 @@ active-insert-requires : tie.Need-active-insert-requires
 active-insert-requires c κs = search rules
 
 returns : tie.Need-returns
-unfolding flatInsertion
+unfolding flat_insertion
 returns c = rw c.before.before.before.enum_told.given.1 c.insert-head.ensures
 
-returns-2 : tie.Need-returns-2
-unfolding flatInsertion
-returns-2 c = rw c.before.before.before.before.detail.given.1 c.active-insert.ensures
+returns_2 : tie.Need-returns-2
+unfolding flat_insertion
+returns_2 c = rw c.before.before.before.before.detail.given.1 c.active-insert.ensures
 
-pub flat-insert-spec : {M : Type 1} → statement M
-flat-insert-spec =
+pub flat_insert_spec : {M : Type 1} → statement M
+flat_insert_spec =
     tie.close
     (tie.spec
     enum_told
@@ -49,4 +49,4 @@ flat-insert-spec =
     cast-active-insert-2
     active-insert-requires
     returns
-    returns-2)
+    returns_2)

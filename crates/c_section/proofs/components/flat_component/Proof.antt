@@ -1,6 +1,6 @@
 -- `c_section::components::flat_component` meets its contract.
 use borrow.Author.Rules.{rules}
-use Rattle.c_section.specs.FlatCommand.{flatComponent}
+use Rattle.c_section.specs.FlatCommand.{flat_component}
 use Rattle.c_section.proofs.components.flat_component.Statement.{statement}
 use Rattle.c_section.proofs.components.flat_component.Tie as tie
 
@@ -11,8 +11,8 @@ flat-time-requires : tie.Need-flat-time-requires
 flat-time-requires c κs = search rules
 
 returns : tie.Need-returns
-unfolding flatComponent
+unfolding flat_component
 returns c = rw c.flat-time.ensures
 
-pub flat-component-spec : {M : Type 1} → statement M
-flat-component-spec = tie.close (tie.spec cast-t3 flat-time-requires returns)
+pub flat_component_spec : {M : Type 1} → statement M
+flat_component_spec = tie.close (tie.spec cast-t3 flat-time-requires returns)

@@ -2,33 +2,33 @@
 use Prim.Native.Nat.{ℕ}
 use mathlib.Core.Path.{◌≡◌, refl}
 use borrow.Author.Rules.{rules}
-use Rattle.command.specs.Command.{countIn}
-use Rattle.command.specs.Insert.{count, insertOf}
+use Rattle.command.specs.Command.{count_in}
+use Rattle.command.specs.Insert.{count, insert_of}
 use Rattle.command.specs.declared.SpliceCommand.{SpliceCommand}
 use Rattle.command.specs.declared.insert.SpliceDetail.{SpliceDetail}
 use Rattle.command.specs.declared.insert.SpliceMode.{SpliceMode}
-use Rattle.c_section.specs.FlatCommand.{flatMode, activeInsert, insertHead, flatDetail, flatInsertion, noCommand, flatCommand, flatInsertComponents}
+use Rattle.c_section.specs.FlatCommand.{flat_mode, active_insert, insert_head, flat_detail, flat_insertion, no_command, flat_command, flat_insert_components}
 use Rattle.c_section.proofs.components.flat_insert_components.Statement.{statement}
 use Rattle.c_section.proofs.components.flat_insert_components.Tie as tie
 
 -- the count of the flat form is the command's
-mode-counts : (m : SpliceMode) → (flatMode m).component_count ≡ count m
-unfolding flatMode
-mode-counts (SpliceMode.Program t) = refl
-mode-counts (SpliceMode.Components n) = refl
+mode_counts : (m : SpliceMode) → (flat_mode m).component_count ≡ count m
+unfolding flat_mode
+mode_counts (SpliceMode.Program t) = refl
+mode_counts (SpliceMode.Components n) = refl
 
-insert-counts : (event reserved : ℕ) (d : SpliceDetail) → (flatDetail event reserved d).mode.component_count ≡ count (insertOf d).splice_mode
-unfolding insertHead activeInsert
-insert-counts event reserved SpliceDetail.Cancel = mode-counts (SpliceMode.Components 0)
-insert-counts event reserved (SpliceDetail.Insert i) = mode-counts i.splice_mode
+insert_counts : (event reserved : ℕ) (d : SpliceDetail) → (flat_detail event reserved d).mode.component_count ≡ count (insert_of d).splice_mode
+unfolding insert_head active_insert
+insert_counts event reserved SpliceDetail.Cancel = mode_counts (SpliceMode.Components 0)
+insert_counts event reserved (SpliceDetail.Insert i) = mode_counts i.splice_mode
 
-counts : (c : SpliceCommand) → (flatCommand c).insert.mode.component_count ≡ countIn c
-unfolding flatCommand noCommand flatInsertion insertHead activeInsert
-counts SpliceCommand.SpliceNull = mode-counts (SpliceMode.Components 0)
-counts (SpliceCommand.SpliceInsert x) = insert-counts x.splice_event_id x.reserved x.splice_detail
-counts (SpliceCommand.TimeSignal t) = mode-counts (SpliceMode.Components 0)
-counts SpliceCommand.BandwidthReservation = mode-counts (SpliceMode.Components 0)
-counts (SpliceCommand.PrivateCommand p) = mode-counts (SpliceMode.Components 0)
+counts : (c : SpliceCommand) → (flat_command c).insert.mode.component_count ≡ count_in c
+unfolding flat_command no_command flat_insertion insert_head active_insert
+counts SpliceCommand.SpliceNull = mode_counts (SpliceMode.Components 0)
+counts (SpliceCommand.SpliceInsert x) = insert_counts x.splice_event_id x.reserved x.splice_detail
+counts (SpliceCommand.TimeSignal t) = mode_counts (SpliceMode.Components 0)
+counts SpliceCommand.BandwidthReservation = mode_counts (SpliceMode.Components 0)
+counts (SpliceCommand.PrivateCommand p) = mode_counts (SpliceMode.Components 0)
 
 enum-known-read : tie.Need-enum-known-read
 enum-known-read c = search rules
@@ -64,19 +64,19 @@ no-components-requires-2 : tie.Need-no-components-requires-2
 no-components-requires-2 c κs = search rules
 
 returns : tie.Need-returns
-unfolding flatInsertComponents
+unfolding flat_insert_components
 returns c = rw (c.before.before.before.before.before.read.given.1, c.before.before.before.flat-command.ensures, counts c.before.before.before.before.before.read.given.0.0, c.flat-components.ensures)
 
-returns-2 : tie.Need-returns-2
-unfolding flatInsertComponents
-returns-2 c = rw (c.before.number.ensures, c.before.before.enum_told.given.1, c.no-components.ensures)
+returns_2 : tie.Need-returns-2
+unfolding flat_insert_components
+returns_2 c = rw (c.before.number.ensures, c.before.before.enum_told.given.1, c.no-components.ensures)
 
-returns-3 : tie.Need-returns-3
-unfolding flatInsertComponents
-returns-3 c = rw (c.before.number2.ensures, c.before.before.enum-told2.given.1, c.no-components2.ensures)
+returns_3 : tie.Need-returns-3
+unfolding flat_insert_components
+returns_3 c = rw (c.before.number2.ensures, c.before.before.enum-told2.given.1, c.no-components2.ensures)
 
-pub flat-insert-components-spec : {M : Type 1} → statement M
-flat-insert-components-spec =
+pub flat_insert_components_spec : {M : Type 1} → statement M
+flat_insert_components_spec =
     tie.close
     (tie.spec
     enum-known-read
@@ -91,5 +91,5 @@ flat-insert-components-spec =
     cast-t13
     no-components-requires-2
     returns
-    returns-2
-    returns-3)
+    returns_2
+    returns_3)

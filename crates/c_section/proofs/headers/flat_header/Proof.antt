@@ -1,8 +1,8 @@
 -- `c_section::headers::flat_header` meets its contract.
 use borrow.Author.Rules.{rules}
-use Rattle.c_section.specs.Flat.{flatHeader}
-use Rattle.names.proofs.algorithm.EncryptionAlgorithm.id.Reads as algorithm-EncryptionAlgorithm-id-reads
-use Rattle.names.proofs.command.SpliceCommandType.id.Reads as command-SpliceCommandType-id-reads
+use Rattle.c_section.specs.Flat.{flat_header}
+use Rattle.names.proofs.algorithm.EncryptionAlgorithm.id.Reads as algorithm_Encryption_algorithm_id_reads
+use Rattle.names.proofs.command.SpliceCommandType.id.Reads as command_Splice_command_type_id_reads
 use Rattle.c_section.proofs.headers.flat_header.Statement.{statement}
 use Rattle.c_section.proofs.headers.flat_header.Tie as tie
 
@@ -34,11 +34,11 @@ cast-t12 : tie.Need-overflow-cast-t12
 cast-t12 c = search rules
 
 returns : tie.Need-returns
-unfolding flatHeader
+unfolding flat_header
 returns c = rw (c.before.before.before.before.before.flat-flag.ensures, c.before.before.before.before.id.ensures, c.id2.ensures)
 
-pub flat-header-spec : {M : Type 1} → statement M
-flat-header-spec =
+pub flat_header_spec : {M : Type 1} → statement M
+flat_header_spec =
     tie.close
     (tie.spec
     cast-t4

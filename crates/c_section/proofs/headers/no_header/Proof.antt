@@ -8,5 +8,5 @@ returns : tie.Need-returns
 unfolding no_header
 returns c = refl
 
-pub no-header-spec : {M : Type 1} → statement M
-no-header-spec = tie.close (tie.spec returns)
+pub no_header_spec : {M : Type 1} → statement M
+no_header_spec = tie.close (tie.spec returns)

@@ -1,6 +1,6 @@
 -- `c_section::headers::read_flat_header`: each field the number of the header's, as it stands.
 use mathlib.Core.Path.{sym, ◌∙◌}
-use Rattle.c_section.proofs.Numbers.{flat-too-short, flat-numbers}
+use Rattle.c_section.proofs.Numbers.{flat_too_short, flat_numbers}
 use borrow.Author.Rules.{rules}
 use Rattle.c_section.proofs.headers.read_flat_header.Statement.{statement}
 use Rattle.c_section.proofs.headers.read_flat_header.Tie as tie
@@ -43,16 +43,16 @@ returns c =
     let f = c.before.before.before.before.before in
     let p = f.before.before.before in
     let r = p.before.before in
-    flat-numbers r.before.before.args.s.now _ _ (sym p.n.given.1 ∙ r.read-header-numbers.ensures) f.flat-flag.ensures
+    flat_numbers r.before.before.args.s.now _ _ (sym p.n.given.1 ∙ r.read-header-numbers.ensures) f.flat-flag.ensures
 
-returns-2 : tie.Need-returns-2
-returns-2 c =
+returns_2 : tie.Need-returns-2
+returns_2 c =
     let t = c.before in
     let g = t.before.before in
-    flat-too-short g.before.before.args.s.now _ (sym t.enum_told.given.1 ∙ g.read-header-numbers.ensures) c.no_header.ensures
+    flat_too_short g.before.before.args.s.now _ (sym t.enum_told.given.1 ∙ g.read-header-numbers.ensures) c.no_header.ensures
 
-pub read-flat-header-spec : {M : Type 1} → statement M
-read-flat-header-spec =
+pub read_flat_header_spec : {M : Type 1} → statement M
+read_flat_header_spec =
     tie.close
     (tie.spec
     read-header-numbers-requires
@@ -67,4 +67,4 @@ read-flat-header-spec =
     enum_told
     no-header-requires
     returns
-    returns-2)
+    returns_2)

@@ -15,5 +15,5 @@ flat-view-requires-2 c κs = search rules
 returns : tie.Need-returns
 returns c = rw (c.before.before.flat-command.ensures, c.before.flat_view.ensures, c.flat-view2.ensures)
 
-pub flat-parts-spec : {M : Type 1} → statement M
-flat-parts-spec = tie.close (tie.spec flat-command-requires flat-view-requires flat-view-requires-2 returns)
+pub flat_parts_spec : {M : Type 1} → statement M
+flat_parts_spec = tie.close (tie.spec flat-command-requires flat-view-requires flat-view-requires-2 returns)

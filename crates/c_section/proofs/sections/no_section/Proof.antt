@@ -1,6 +1,6 @@
 -- `c_section::sections::no_section`: its number, and nothing else.
 use borrow.Author.Rules.{rules}
-use Rattle.c_section.specs.FlatSection.{flatSectionRead}
+use Rattle.c_section.specs.FlatSection.{flat_section_read}
 use Rattle.c_section.proofs.sections.no_section.Statement.{statement}
 use Rattle.c_section.proofs.sections.no_section.Tie as tie
 
@@ -17,9 +17,9 @@ no-command-requires : tie.Need-no-command-requires
 no-command-requires c κs = search rules
 
 returns : tie.Need-returns
-unfolding flatSectionRead
+unfolding flat_section_read
 returns c = rw (c.before.before.number.ensures, c.before.no_header.ensures, c.no-command.ensures)
 
-pub no-section-spec : {M : Type 1} → statement M
-no-section-spec =
+pub no_section_spec : {M : Type 1} → statement M
+no_section_spec =
     tie.close (tie.spec number-requires cast-t3 no-header-requires no-command-requires returns)

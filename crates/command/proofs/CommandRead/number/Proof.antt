@@ -15,11 +15,11 @@ enum-told-3 c = search rules
 returns : tie.Need-returns
 returns c = rw c.enum_told.given.1
 
-returns-2 : tie.Need-returns-2
-returns-2 c = rw c.enum-told2.given.1
+returns_2 : tie.Need-returns-2
+returns_2 c = rw c.enum-told2.given.1
 
-returns-3 : tie.Need-returns-3
-returns-3 c = rw c.enum-told3.given.1
+returns_3 : tie.Need-returns-3
+returns_3 c = rw c.enum-told3.given.1
 
-pub number-spec : {M : Type 1} → statement M
-number-spec = tie.close (tie.spec enum_told enum-told-2 enum-told-3 returns returns-2 returns-3)
+pub number_spec : {M : Type 1} → statement M
+number_spec = tie.close (tie.spec enum_told enum-told-2 enum-told-3 returns returns_2 returns_3)

@@ -16,14 +16,14 @@ returns c = search rules
 enum-told-2 : tie.Need-enum-told-2
 enum-told-2 c = search rules
 
-returns-2 : tie.Need-returns-2
-returns-2 c = search rules
+returns_2 : tie.Need-returns-2
+returns_2 c = search rules
 
 enum-told-3 : tie.Need-enum-told-3
 enum-told-3 c = search rules
 
-returns-3 : tie.Need-returns-3
-returns-3 c = search rules
+returns_3 : tie.Need-returns-3
+returns_3 c = search rules
 
 enum-known-command : tie.Need-enum-known-command
 enum-known-command c = search rules
@@ -31,14 +31,14 @@ enum-known-command c = search rules
 enum-told-4 : tie.Need-enum-told-4
 enum-told-4 c = search rules
 
-returns-4 : tie.Need-returns-4
-returns-4 c = search rules
+returns_4 : tie.Need-returns-4
+returns_4 c = search rules
 
 enum-told-5 : tie.Need-enum-told-5
 enum-told-5 c = search rules
 
-returns-5 : tie.Need-returns-5
-returns-5 c = search rules
+returns_5 : tie.Need-returns-5
+returns_5 c = search rules
 
 enum-told-6 : tie.Need-enum-told-6
 enum-told-6 c = search rules
@@ -76,22 +76,22 @@ returns-9 c =
     let r = k.before.before.before in
     counted _ _ _ _ _ r.read.given.1 k.command.given.1 d.detail.given.1 c.enum-told8.given.1
 
-pub count-of-spec : {M : Type 1} → statement M
-count-of-spec =
+pub count_of_spec : {M : Type 1} → statement M
+count_of_spec =
     tie.close
     (tie.spec
     enum-known-read
     enum_told
     returns
     enum-told-2
-    returns-2
+    returns_2
     enum-told-3
-    returns-3
+    returns_3
     enum-known-command
     enum-told-4
-    returns-4
+    returns_4
     enum-told-5
-    returns-5
+    returns_5
     enum-told-6
     returns-6
     enum-known-detail

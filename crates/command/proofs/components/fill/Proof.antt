@@ -9,7 +9,7 @@ use Rattle.table.specs.Table.{list, parse}
 use Rattle.command.specs.Command.{array}
 use Rattle.command.specs.Insert.{blank, component}
 use Rattle.command.specs.Private.{filled}
-use Rattle.command.proofs.Filling.{fill_start, fill-turn, fill-lacks, fill_end, blank-length}
+use Rattle.command.proofs.Filling.{fill_start, fill_turn, fill_lacks, fill_end, blank_length}
 use Rattle.command.proofs.components.fill.Statement.{statement}
 use Rattle.command.proofs.components.fill.Tie as tie
 
@@ -29,7 +29,7 @@ loop-holds c =
     let st = b.before.before in
     let a = st.args in
     let z : a.count - 0 ≡ a.count = omega arith in
-    (omega arith, rw b.blanks.ensures blank-length, rw (b.blanks.ensures, z))
+    (omega arith, rw b.blanks.ensures blank_length, rw (b.blanks.ensures, z))
 
 read-component-requires : tie.Need-read-component-requires invariant-loop decreases-loop
 read-component-requires c κs = omega arith
@@ -58,7 +58,7 @@ returns c =
     let st = l.before.before.before in
     let a = st.args in
     let n : a.count - l.loop.i ≡ suc (a.count - l.loop.i - 1) = omega arith in
-    b.blanks2.ensures ∙ fill-lacks a.s.now a.immediate l.loop.out l.loop.i (a.count - l.loop.i - 1) (l.loop.at * 8) _ (sym t.enum_told.given.1 ∙ r.read-component.ensures)
+    b.blanks2.ensures ∙ fill_lacks a.s.now a.immediate l.loop.out l.loop.i (a.count - l.loop.i - 1) (l.loop.at * 8) _ (sym t.enum_told.given.1 ∙ r.read-component.ensures)
     ∙ rw n at l.loop.invariant.2 ∙ fill_start a.s.now a.immediate a.count (a.first * 8) st.requires
 
 add-i : tie.Need-overflow-add-i invariant-loop decreases-loop
@@ -77,11 +77,11 @@ loop-again c =
     let n : a.count - l.loop.i ≡ suc (a.count - (l.loop.i + 1)) = omega arith in (
       omega arith,
       length-set l.loop.out l.loop.i _ ∙ l.loop.invariant.1,
-      fill-turn a.s.now a.immediate l.loop.out l.loop.i (a.count - (l.loop.i + 1)) l.loop.at _ (sym y.y.given.1 ∙ r.read-component.ensures) ∙ rw n at l.loop.invariant.2,
+      fill_turn a.s.now a.immediate l.loop.out l.loop.i (a.count - (l.loop.i + 1)) l.loop.at _ (sym y.y.given.1 ∙ r.read-component.ensures) ∙ rw n at l.loop.invariant.2,
     )
 
-returns-2 : tie.Need-returns-2 invariant-loop decreases-loop
-returns-2 c =
+returns_2 : tie.Need-returns-2 invariant-loop decreases-loop
+returns_2 c =
     let l = c.before in
     let st = l.before.before.before in
     let a = st.args in
@@ -106,4 +106,4 @@ fill_spec =
     add-i
     loop-less
     loop-again
-    returns-2)
+    returns_2)

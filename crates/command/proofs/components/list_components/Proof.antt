@@ -1,5 +1,5 @@
 -- `command::components::list_components`: the components lie from byte 7 on, as many as the command says.
-use Rattle.command.proofs.Filling.{all-components}
+use Rattle.command.proofs.Filling.{all_components}
 use borrow.Author.Rules.{rules}
 use Rattle.command.proofs.components.list_components.Statement.{statement}
 use Rattle.command.proofs.components.list_components.Tie as tie
@@ -25,9 +25,9 @@ returns c =
     let n = v.before in
     let r = n.before in
     let a = r.before.before.args in
-    all-components a.payload.now _ _ _ _ r.read-other.ensures n.count-of.ensures v.bits.ensures c.fill.ensures
+    all_components a.payload.now _ _ _ _ r.read-other.ensures n.count_of_lem.ensures v.bits.ensures c.fill.ensures
 
-pub list-components-spec : {M : Type 1} → statement M
-list-components-spec =
+pub list_components_spec : {M : Type 1} → statement M
+list_components_spec =
     tie.close
     (tie.spec read-other-requires count-of-requires cast-fill bits-requires fill-requires returns)

@@ -14,5 +14,5 @@ returns : tie.Need-returns
 unfolding listed_of
 returns c = rw (c.before.read-command.ensures, c.list-components.ensures)
 
-pub read-components-spec : {M : Type 1} → statement M
-read-components-spec = tie.close (tie.spec read-command-requires list-components-requires returns)
+pub read_components_spec : {M : Type 1} → statement M
+read_components_spec = tie.close (tie.spec read-command-requires list-components-requires returns)

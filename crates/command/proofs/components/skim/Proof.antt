@@ -5,13 +5,13 @@ use native.Mathlib.Omega.{arith}
 use Rattle.table.specs.Bits.{bits_of}
 use Rattle.table.specs.Table.{list, parse}
 use Rattle.command.specs.Insert.{blank, component}
-use Rattle.command.specs.Private.{skimmedOf}
-use Rattle.command.proofs.Walking.{turn, turn-lacks, all-skimmed}
+use Rattle.command.specs.Private.{skimmed_of}
+use Rattle.command.proofs.Walking.{turn, turn_lacks, all_skimmed}
 use Rattle.command.proofs.components.skim.Statement.{statement}
 use Rattle.command.proofs.components.skim.Tie as tie
 
 abbrev invariant-loop : tie.invariant-loop
-invariant-loop s first count immediate at₀ ahead₀ at ahead = skimmedOf (parse (list ahead blank (component immediate)) (bits_of s) (at * 8)) ≡ skimmedOf (parse (list count blank (component immediate)) (bits_of s) (first * 8))
+invariant-loop s first count immediate at₀ ahead₀ at ahead = skimmed_of (parse (list ahead blank (component immediate)) (bits_of s) (at * 8)) ≡ skimmed_of (parse (list count blank (component immediate)) (bits_of s) (first * 8))
 
 abbrev decreases-loop : tie.decreases-loop
 decreases-loop s first count immediate at₀ ahead₀ at ahead = ahead
@@ -35,7 +35,7 @@ returns c =
     let l = r.before.before in
     let a = l.before.before.args in
     let n : l.loop.ahead ≡ suc (l.loop.ahead - 1) = omega arith in
-    turn-lacks a.s.now a.immediate (l.loop.ahead - 1) (l.loop.at * 8) _ (sym e.e.given.1 ∙ r.read-component.ensures) ∙ rw n at l.loop.invariant
+    turn_lacks a.s.now a.immediate (l.loop.ahead - 1) (l.loop.at * 8) _ (sym e.e.given.1 ∙ r.read-component.ensures) ∙ rw n at l.loop.invariant
 
 sub-ahead : tie.Need-overflow-sub-ahead invariant-loop decreases-loop
 sub-ahead c = omega arith
@@ -52,15 +52,15 @@ loop-again c =
     let n : l.loop.ahead ≡ suc (l.loop.ahead - 1) = omega arith in
     turn a.s.now a.immediate (l.loop.ahead - 1) l.loop.at _ (sym y.y.given.1 ∙ r.read-component.ensures) ∙ rw n at l.loop.invariant
 
-returns-2 : tie.Need-returns-2 invariant-loop decreases-loop
-returns-2 c =
+returns_2 : tie.Need-returns-2 invariant-loop decreases-loop
+returns_2 c =
     let l = c.before in
     let a = l.before.before.args in
     let n : l.loop.ahead ≡ 0 = omega arith in
-    all-skimmed a.s.now a.immediate l.loop.at ∙ rw n at l.loop.invariant
+    all_skimmed a.s.now a.immediate l.loop.at ∙ rw n at l.loop.invariant
 
-pub skim-spec : {M : Type 1} → statement M
-skim-spec =
+pub skim_spec : {M : Type 1} → statement M
+skim_spec =
     tie.close
     (tie.spec
     invariant-loop
@@ -73,4 +73,4 @@ skim-spec =
     sub-ahead
     loop-less
     loop-again
-    returns-2)
+    returns_2)

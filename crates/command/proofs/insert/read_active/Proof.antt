@@ -1,12 +1,12 @@
 -- `command::insert::read_active`: by the byte of the flags, and then its parts as their tables are read.
 use mathlib.Core.Path.{sym, ◌∙◌}
-use Rattle.command.proofs.Walking.{no-flags, no_mode, mode-within, an-active}
+use Rattle.command.proofs.Walking.{no_flags, no_mode, mode_within, an_active}
 use borrow.Author.Rules.{rules}
 use Rattle.command.proofs.insert.read_active.Statement.{statement}
 use Rattle.command.proofs.insert.read_active.Tie as tie
 
 returns : tie.Need-returns
-returns c = let a = c.before.before.args in no-flags a.payload.now a.at c.if1.true
+returns c = let a = c.before.before.args in no_flags a.payload.now a.at c.if1.true
 
 shared-slice-read-wide : tie.Need-shared-slice-read-wide
 shared-slice-read-wide c = search rules
@@ -26,8 +26,8 @@ enum-known-m c = search rules
 enum-known-e : tie.Need-enum-known-e
 enum-known-e c = search rules
 
-returns-2 : tie.Need-returns-2
-returns-2 c =
+returns_2 : tie.Need-returns-2
+returns_2 c =
     let x = c.before in
     let r = x.before.before in
     let w = r.before in
@@ -42,19 +42,19 @@ read-ending-requires c κs =
     let w = r.before in
     let e = w.before.before in
     let a = e.before.before.args in
-    mode-within a.payload.now a.at w.wide.result e.if1.false w.wide.ensures.0 w.wide.ensures.1 _ (sym m.m.given.1 ∙ r.read-mode.ensures)
+    mode_within a.payload.now a.at w.wide.result e.if1.false w.wide.ensures.0 w.wide.ensures.1 _ (sym m.m.given.1 ∙ r.read-mode.ensures)
 
-returns-3 : tie.Need-returns-3
-returns-3 c =
+returns_3 : tie.Need-returns-3
+returns_3 c =
     let m = c.before.before in
     let r = m.before.before in
     let w = r.before in
     let e = w.before.before in
     let a = e.before.before.args in
-    an-active a.payload.now a.at w.wide.result e.if1.false w.wide.ensures.0 w.wide.ensures.1 _ (sym m.m.given.1 ∙ r.read-mode.ensures) _ c.read_ending.ensures
+    an_active a.payload.now a.at w.wide.result e.if1.false w.wide.ensures.0 w.wide.ensures.1 _ (sym m.m.given.1 ∙ r.read-mode.ensures) _ c.read_ending.ensures
 
-pub read-active-spec : {M : Type 1} → statement M
-read-active-spec =
+pub read_active_spec : {M : Type 1} → statement M
+read_active_spec =
     tie.close
     (tie.spec
     returns
@@ -64,6 +64,6 @@ read-active-spec =
     read-mode-requires
     enum-known-m
     enum-known-e
-    returns-2
+    returns_2
     read-ending-requires
-    returns-3)
+    returns_3)

@@ -3,8 +3,8 @@ use Prim.Native.Nat.{◌*◌}
 use mathlib.Core.Path.{refl, sym, ◌∙◌}
 use native.Mathlib.Omega.{arith}
 use Rattle.table.proofs.Reading.{bits_are}
-use Rattle.splice_time.proofs.Breaks.{break-within}
-use Rattle.command.proofs.Walking.{no-ending, no-program-id, no-avails, an-ending}
+use Rattle.splice_time.proofs.Breaks.{break_within}
+use Rattle.command.proofs.Walking.{no_ending, no_program_id, no_avails, an_ending}
 use borrow.Author.Rules.{rules}
 use Rattle.command.proofs.insert.read_ending.Statement.{statement}
 use Rattle.command.proofs.insert.read_ending.Tie as tie
@@ -24,35 +24,35 @@ returns c cs =
     let r = e.before.before in
     let st = r.before.before in
     let a = st.args in
-    no-ending a.payload.now a.at st.requires a.out _ a.flagged _ (sym e.e.given.1 ∙ r.read-break.ensures)
+    no_ending a.payload.now a.at st.requires a.out _ a.flagged _ (sym e.e.given.1 ∙ r.read-break.ensures)
 
-sub-left : tie.Need-overflow-sub-left
-sub-left c =
+sub_left : tie.Need-overflow-sub-left
+sub_left c =
     let b = c.before in
     let r = b.before.before in
     let st = r.before.before in
     let a = st.args in
     let ed = (sym b.b.given.1 ∙ r.read-break.ensures) in
-    break-within a.payload.now a.at st.requires a.flagged _ ed
+    break_within a.payload.now a.at st.requires a.flagged _ ed
 
-returns-2 : tie.Need-returns-2
-returns-2 c cs =
+returns_2 : tie.Need-returns-2
+returns_2 c cs =
     let b = c.before.before in
     let r = b.before.before in
     let st = r.before.before in
     let a = st.args in
     let ed = (sym b.b.given.1 ∙ r.read-break.ensures) in
-    no-program-id a.payload.now a.at st.requires a.out _ a.flagged _ ed _ refl c.if1.true
+    no_program_id a.payload.now a.at st.requires a.out _ a.flagged _ ed _ refl c.if1.true
 
-returns-3 : tie.Need-returns-3
-returns-3 c cs =
+returns_3 : tie.Need-returns-3
+returns_3 c cs =
     let i = c.before in
     let b = i.before.before in
     let r = b.before.before in
     let st = r.before.before in
     let a = st.args in
     let ed = (sym b.b.given.1 ∙ r.read-break.ensures) in
-    no-avails a.payload.now a.at st.requires a.out _ a.flagged _ ed _ refl i.if1.false c.if2.true
+    no_avails a.payload.now a.at st.requires a.out _ a.flagged _ ed _ refl i.if1.false c.if2.true
 
 indicator-requires : tie.Need-indicator-requires
 indicator-requires c κs = search rules
@@ -78,8 +78,8 @@ add-t23 c = search rules
 shared-slice-read-t25 : tie.Need-shared-slice-read-t25
 shared-slice-read-t25 c = search rules
 
-returns-4 : tie.Need-returns-4
-returns-4 c cs =
+returns_4 : tie.Need-returns-4
+returns_4 c cs =
     let g = c.before in
     let n = g.before in
     let i = n.before in
@@ -89,21 +89,21 @@ returns-4 c cs =
     let st = r.before.before in
     let a = st.args in
     let ed = (sym b.b.given.1 ∙ r.read-break.ensures) in
-    let w = break-within a.payload.now a.at st.requires a.flagged _ ed in
-    an-ending a.payload.now a.at st.requires a.out _ a.flagged _ ed n.big_endian.result i.indicator.result (omega (arith, e.if2.false, w))
+    let w = break_within a.payload.now a.at st.requires a.flagged _ ed in
+    an_ending a.payload.now a.at st.requires a.out _ a.flagged _ ed n.big_endian.result i.indicator.result (omega (arith, e.if2.false, w))
     (bits_are a.payload.now (b.b.given.0.0.next * 8) 16 _ (omega arith) n.big_endian.ensures).0 (g.shared-slice-known2.given _).fits (c.shared-slice-known3.given _).fits i.indicator.ensures
 
-pub read-ending-spec : {M : Type 1} → statement M
-read-ending-spec =
+pub read_ending_spec : {M : Type 1} → statement M
+read_ending_spec =
     tie.close
     (tie.spec
     read-break-requires
     enum-known-b
     enum-known-e
     returns
-    sub-left
-    returns-2
-    returns-3
+    sub_left
+    returns_2
+    returns_3
     indicator-requires
     big-endian-requires
     cast-t20
@@ -111,4 +111,4 @@ read-ending-spec =
     shared-slice-read-t22
     add-t23
     shared-slice-read-t25
-    returns-4)
+    returns_4)

@@ -2,16 +2,16 @@
 use mathlib.Core.Path.{sym, ◌∙◌}
 use native.Mathlib.Omega.{arith}
 use Rattle.table.proofs.Reading.{bits_are}
-use Rattle.command.proofs.Walking.{no-event, no-cancel, a-cancel, an-insert, no-active}
+use Rattle.command.proofs.Walking.{no_event, no_cancel, a_cancel, an_insert, no_active_lem}
 use borrow.Author.Rules.{rules}
 use Rattle.command.proofs.insert.read_insert.Statement.{statement}
 use Rattle.command.proofs.insert.read_insert.Tie as tie
 
 returns : tie.Need-returns
-returns c = no-event c.before.before.args.payload.now c.if1.true
+returns c = no_event c.before.before.args.payload.now c.if1.true
 
-returns-2 : tie.Need-returns-2
-returns-2 c = no-cancel c.before.before.before.args.payload.now c.before.if1.false c.if2.true
+returns_2 : tie.Need-returns-2
+returns_2 c = no_cancel c.before.before.before.args.payload.now c.before.if1.false c.if2.true
 
 big-endian-requires : tie.Need-big-endian-requires
 big-endian-requires c κs = search rules
@@ -23,12 +23,12 @@ cast-splice-event-id c =
 shared-slice-read-flags : tie.Need-shared-slice-read-flags
 shared-slice-read-flags c = search rules
 
-returns-3 : tie.Need-returns-3
-returns-3 c =
+returns_3 : tie.Need-returns-3
+returns_3 c =
     let k = c.before in
     let n = k.before in
     let a = n.before.before.before.before.args in
-    a-cancel a.payload.now n.big_endian.result n.before.if2.false (bits_are a.payload.now 0 32 _ (omega arith) n.big_endian.ensures).0 (k.shared-slice-known2.given 4).fits c.if3.true
+    a_cancel a.payload.now n.big_endian.result n.before.if2.false (bits_are a.payload.now 0 32 _ (omega arith) n.big_endian.ensures).0 (k.shared-slice-known2.given 4).fits c.if3.true
 
 read-active-requires : tie.Need-read-active-requires
 read-active-requires c κs = search rules
@@ -39,36 +39,36 @@ enum-known-i c = search rules
 enum-known-e : tie.Need-enum-known-e
 enum-known-e c = search rules
 
-returns-4 : tie.Need-returns-4
-returns-4 c =
+returns_4 : tie.Need-returns-4
+returns_4 c =
     let i = c.before in
     let r = i.before.before in
     let k = r.before.before in
     let n = k.before in
     let a = n.before.before.before.before.args in
-    an-insert a.payload.now n.big_endian.result n.before.if2.false (bits_are a.payload.now 0 32 _ (omega arith) n.big_endian.ensures).0 (k.shared-slice-known2.given 4).fits r.before.if3.false _ (sym i.i.given.1 ∙ r.read-active.ensures)
+    an_insert a.payload.now n.big_endian.result n.before.if2.false (bits_are a.payload.now 0 32 _ (omega arith) n.big_endian.ensures).0 (k.shared-slice-known2.given 4).fits r.before.if3.false _ (sym i.i.given.1 ∙ r.read-active.ensures)
 
-returns-5 : tie.Need-returns-5
-returns-5 c =
+returns_5 : tie.Need-returns-5
+returns_5 c =
     let e = c.before in
     let r = e.before.before in
     let k = r.before.before in
     let n = k.before in
     let a = n.before.before.before.before.args in
-    no-active a.payload.now n.big_endian.result n.before.if2.false (bits_are a.payload.now 0 32 _ (omega arith) n.big_endian.ensures).0 (k.shared-slice-known2.given 4).fits r.before.if3.false _ (sym e.e.given.1 ∙ r.read-active.ensures)
+    no_active_lem a.payload.now n.big_endian.result n.before.if2.false (bits_are a.payload.now 0 32 _ (omega arith) n.big_endian.ensures).0 (k.shared-slice-known2.given 4).fits r.before.if3.false _ (sym e.e.given.1 ∙ r.read-active.ensures)
 
-pub read-insert-spec : {M : Type 1} → statement M
-read-insert-spec =
+pub read_insert_spec : {M : Type 1} → statement M
+read_insert_spec =
     tie.close
     (tie.spec
     returns
-    returns-2
+    returns_2
     big-endian-requires
     cast-splice-event-id
     shared-slice-read-flags
-    returns-3
+    returns_3
     read-active-requires
     enum-known-i
     enum-known-e
-    returns-4
-    returns-5)
+    returns_4
+    returns_5)

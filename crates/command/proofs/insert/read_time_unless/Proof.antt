@@ -1,5 +1,5 @@
 -- `command::insert::read_time_unless` meets its contract.
-use Rattle.command.proofs.Walking.{at_once, at-a-time}
+use Rattle.command.proofs.Walking.{at_once, at_a_time}
 use borrow.Author.Rules.{rules}
 use Rattle.command.proofs.insert.read_time_unless.Statement.{statement}
 use Rattle.command.proofs.insert.read_time_unless.Tie as tie
@@ -10,9 +10,9 @@ returns c = let a = c.before.before.args in rw c.if1.true (at_once a.payload.now
 read-aligned-time-requires : tie.Need-read-aligned-time-requires
 read-aligned-time-requires c κs = search rules
 
-returns-2 : tie.Need-returns-2
-returns-2 c =
-    let a = c.before.before.before.args in rw c.before.if1.false (at-a-time a.payload.now a.at _ c.read-aligned-time.ensures)
+returns_2 : tie.Need-returns-2
+returns_2 c =
+    let a = c.before.before.before.args in rw c.before.if1.false (at_a_time a.payload.now a.at _ c.read-aligned-time.ensures)
 
-pub read-time-unless-spec : {M : Type 1} → statement M
-read-time-unless-spec = tie.close (tie.spec returns read-aligned-time-requires returns-2)
+pub read_time_unless_spec : {M : Type 1} → statement M
+read_time_unless_spec = tie.close (tie.spec returns read-aligned-time-requires returns_2)

@@ -32,12 +32,12 @@ returns : tie.Need-returns
 returns c =
     let s = c.before.before.before.before.before in
     let size = c.before.before in
-    let e = c.before.both.ensures ∙ ap (λ (u : Bool). u && s.args.s.fits) size.before.before.time-fits.ensures in
+    let e = c.before.both.ensures ∙ ap (λ (u : Bool). u && s.args.s.fits) size.before.before.time_fits.ensures in
     let h = c.both2.ensures ∙ ap (λ (u : Bool). u && s.args.s.alike) size.before.agrees.ensures in
     (added s.args.at_once s.args.component.splice_time s.args.s _ _ _ e h size.time-size.ensures.0, omega arith)
 
-pub add-component-spec : {M : Type 1} → statement M
-add-component-spec =
+pub add_component_spec : {M : Type 1} → statement M
+add_component_spec =
     tie.close
     (tie.spec
     time-fits-requires

@@ -24,13 +24,13 @@ array-copy-out-place c = search rules
 is-immediate-requires : tie.Need-is-immediate-requires
 is-immediate-requires c κs = search rules
 
-returns-2 : tie.Need-returns-2
-returns-2 c =
+returns_2 : tie.Need-returns-2
+returns_2 c =
     let s = c.before.before.before in
     let d : InsertComponent = record { component_tag = 0; splice_time = Immediate } in
     let some : 0 < s.args.n = omega arith in
     rw (lt-ltb 0 s.args.n some) (c.is-immediate.ensures ∙ ap (λ (x : InsertComponent). immediate x.splice_time) (get_d_any s.args.t2 0 d blank (omega (arith, full s))))
 
-pub are-immediate-spec : {M : Type 1} → statement M
-are-immediate-spec =
-    tie.close (tie.spec returns array-copy-out-place is-immediate-requires returns-2)
+pub are_immediate_spec : {M : Type 1} → statement M
+are_immediate_spec =
+    tie.close (tie.spec returns array-copy-out-place is-immediate-requires returns_2)

@@ -1,7 +1,7 @@
 -- `command_measure::measure::blanks_of`, by the mode.
 use Prim.Native.Nat.{◌≤◌}
 use native.Mathlib.Omega.{arith}
-use Rattle.command_measure.specs.Survey.{blanksOf}
+use Rattle.command_measure.specs.Survey.{blanks_of}
 use borrow.Author.Rules.{rules}
 use Rattle.command_measure.proofs.measure.blanks_of.Statement.{statement}
 use Rattle.command_measure.proofs.measure.blanks_of.Tie as tie
@@ -19,15 +19,15 @@ mul-t5 : tie.Need-overflow-mul-t5
 mul-t5 c = search rules
 
 returns : tie.Need-returns
-unfolding blanksOf
+unfolding blanks_of
 returns c = (rw c.enum_told.given.1, rw c.enum_told.given.1 (omega arith))
 
-returns-2 : tie.Need-returns-2
-unfolding blanksOf
-returns-2 c =
+returns_2 : tie.Need-returns-2
+unfolding blanks_of
+returns_2 c =
     let m = c.before in
     let most : m.mode.given.0.0 ≤ 255 = omega arith in
     (rw m.mode.given.1, rw m.mode.given.1 most)
 
-pub blanks-of-spec : {M : Type 1} → statement M
-blanks-of-spec = tie.close (tie.spec enum_told enum-known-mode cast-t4 mul-t5 returns returns-2)
+pub blanks_of_spec : {M : Type 1} → statement M
+blanks_of_spec = tie.close (tie.spec enum_told enum-known-mode cast-t4 mul-t5 returns returns_2)

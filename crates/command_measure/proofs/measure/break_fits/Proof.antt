@@ -12,8 +12,8 @@ enum-known-duration c = search rules
 returns : tie.Need-returns
 returns c = rw c.enum_told.given.1
 
-returns-2 : tie.Need-returns-2
-returns-2 c = rw c.before.before.duration.given.1
+returns_2 : tie.Need-returns-2
+returns_2 c = rw c.before.before.duration.given.1
 
-pub break-fits-spec : {M : Type 1} → statement M
-break-fits-spec = tie.close (tie.spec enum_told enum-known-duration returns returns-2)
+pub break_fits_spec : {M : Type 1} → statement M
+break_fits_spec = tie.close (tie.spec enum_told enum-known-duration returns returns_2)

@@ -10,7 +10,7 @@ use Rattle.command.specs.declared.components.InsertComponent.{InsertComponent}
 use Rattle.splice_time.specs.declared.SpliceTime.TheVariants.{Immediate}
 use Rattle.command_measure.specs.Survey.{adding, surveyed}
 use Rattle.command_measure.specs.declared.measure.Survey.{Survey}
-use Rattle.command_measure.proofs.Surveys.{surveyed-nil, surveyed-at, tags-at, survey-bytes}
+use Rattle.command_measure.proofs.Surveys.{surveyed_nil, surveyed_at, tags_at, survey_bytes}
 use borrow.Author.Rules.{rules}
 use Rattle.command_measure.proofs.measure.look.Statement.{statement}
 use Rattle.command_measure.proofs.measure.look.Tie as tie
@@ -30,7 +30,7 @@ counted c = length-take-le c.args.count c.args.t1 (omega (arith, full c, c.requi
 loop-holds : tie.Need-loop-init invariant-loop decreases-loop
 loop-holds c =
     let z : drop c.args.count (take c.args.count c.args.t1) ≡ [] = drop_of_length-le (take c.args.count c.args.t1) {i = c.args.count} (omega (arith, counted c)) in
-    (omega arith, rw z (surveyed-nil c.args.at_once), rw z tt)
+    (omega arith, rw z (surveyed_nil c.args.at_once), rw z tt)
 
 sub-i : tie.Need-overflow-sub-i invariant-loop decreases-loop
 sub-i c = omega arith
@@ -47,7 +47,7 @@ add-component-requires c κs =
     let a = l.before.args in
     let rest = drop l.loop.i (take a.count a.t1) in
     let n : length rest ≡ a.count - l.loop.i = length-drop l.loop.i (take a.count a.t1) ∙ ap (λ (k : ℕ). k - l.loop.i) (counted l.before) in
-    rw l.loop.invariant.1 (omega (arith, survey-bytes a.at_once rest, l.before.requires))
+    rw l.loop.invariant.1 (omega (arith, survey_bytes a.at_once rest, l.before.requires))
 
 loop-less : tie.Need-loop-smaller invariant-loop decreases-loop
 loop-less c = omega arith
@@ -66,8 +66,8 @@ loop-again c =
     let s : c.add-component.result ≡ surveyed a.at_once (drop j cs) =
     one.0
     ∙ ap₂ (λ (x : InsertComponent) (y : Survey). adding a.at_once x.splice_time y) (sym same) (l.loop.invariant.1 ∙ ap (λ (k : ℕ). surveyed a.at_once (drop k cs)) (sym z))
-    ∙ surveyed-at a.at_once cs j d h in
-    (omega arith, s, tags-at cs j d h (rw same one.1) (rw z l.loop.invariant.2))
+    ∙ surveyed_at a.at_once cs j d h in
+    (omega arith, s, tags_at cs j d h (rw same one.1) (rw z l.loop.invariant.2))
 
 returns : tie.Need-returns invariant-loop decreases-loop
 returns c =

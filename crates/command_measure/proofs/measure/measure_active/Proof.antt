@@ -3,11 +3,11 @@ use mathlib.Core.Path.{◌≡◌, refl, ap, ap₂, sym, ◌∙◌}
 use mir.Syntax.{w8, w16}
 use mir.Val.{Fits}
 use lib.Dec.{ltb}
-use Rattle.command_measure.proofs.Making.{measured-same}
+use Rattle.command_measure.proofs.Making.{measured_same}
 use native.Mathlib.Omega.{arith}
 use Prim.Native.Nat.{ℕ, ◌+◌, ◌^◌}
 use mathlib.Core.Bool.{Bool, ◌&&◌}
-use Rattle.command_measure.specs.Survey.{measured, activeMeasured}
+use Rattle.command_measure.specs.Survey.{measured, active_measured}
 use borrow.Author.Rules.{rules}
 use Rattle.command_measure.proofs.measure.measure_active.Statement.{statement}
 use Rattle.command_measure.proofs.measure.measure_active.Tie as tie
@@ -55,7 +55,7 @@ verdict-requires : tie.Need-verdict-requires
 verdict-requires c κs = search rules
 
 returns : tie.Need-returns
-unfolding activeMeasured
+unfolding active_measured
 returns c =
     let size = c.before.before in
     let writable = size.before in
@@ -65,14 +65,14 @@ returns c =
     let long = times.before in
     let late = long.before in
     let a = late.before.args in
-    let t = times.both.ensures ∙ ap₂ (λ (u v : Bool). u && v) late.mode-fits.ensures long.break-fits.ensures in
+    let t = times.both.ensures ∙ ap₂ (λ (u v : Bool). u && v) late.mode_fits.ensures long.break_fits.ensures in
     let n = numbers.both2.ensures ∙ ap (λ (u : Bool). ltb a.reserved 128 && u) t in
     let f = fits.both3.ensures ∙ ap (λ (u : Bool). a.s.fits && u) n in
-    let z = ap₂ (λ (u v : ℕ). 10 + u + v) size.mode-size.ensures.0 c.before.break-size.ensures.0 in
-    (c.verdict.ensures ∙ measured-same f writable.both4.ensures z, (id late.before).fits, (avail late.before).fits, (expected late.before).fits)
+    let z = ap₂ (λ (u v : ℕ). 10 + u + v) size.mode_size_lem.ensures.0 c.before.break-size.ensures.0 in
+    (c.verdict.ensures ∙ measured_same f writable.both4.ensures z, (id late.before).fits, (avail late.before).fits, (expected late.before).fits)
 
-pub measure-active-spec : {M : Type 1} → statement M
-measure-active-spec =
+pub measure_active_spec : {M : Type 1} → statement M
+measure_active_spec =
     tie.close
     (tie.spec
     mode-fits-requires

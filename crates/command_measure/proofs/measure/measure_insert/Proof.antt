@@ -9,12 +9,12 @@ use lib.Seq.{length-take-le}
 use Rattle.command.specs.Command.{array}
 use Rattle.command.specs.Insert.{WithComponents, count}
 use Rattle.command.specs.declared.insert.SpliceInsert.{SpliceInsert}
-use Rattle.command_measure.specs.Fields.{immediateIn}
-use Rattle.command_measure.specs.Made.{insertMade, measuredOf}
-use Rattle.command_measure.specs.Survey.{surveyed, activeMeasured}
+use Rattle.command_measure.specs.Fields.{immediate_in}
+use Rattle.command_measure.specs.Made.{insert_made, measured_of}
+use Rattle.command_measure.specs.Survey.{surveyed, active_measured}
 use Rattle.command_measure.specs.declared.measure.Survey.{Survey}
-use Rattle.command_measure.proofs.Making.{active-count, insert-active, listed-now, none-counted, cancel-none, program-none}
-use Rattle.command_measure.proofs.Surveys.{survey-bytes}
+use Rattle.command_measure.proofs.Making.{active_count, insert_active, listed_now, none_counted, cancel_none, program_none}
+use Rattle.command_measure.proofs.Surveys.{survey_bytes}
 use borrow.Author.Rules.{rules}
 use Rattle.command_measure.proofs.measure.measure_insert.Statement.{statement}
 use Rattle.command_measure.proofs.measure.measure_insert.Tie as tie
@@ -35,8 +35,8 @@ returns : tie.Need-returns
 returns c =
     let t = c.before in
     let a = t.before.before.args in
-    let e = none-counted a.i (array []) a.components (cancel-none a.i.splice_detail t.enum_told.given.1) in
-    (c.measure-insert-without-components.ensures.0 ∙ ap (λ (x : WithComponents SpliceInsert). measuredOf (insertMade x)) e, c.measure-insert-without-components.ensures.1)
+    let e = none_counted a.i (array []) a.components (cancel_none a.i.splice_detail t.enum_told.given.1) in
+    (c.measure-insert-without-components.ensures.0 ∙ ap (λ (x : WithComponents SpliceInsert). measured_of (insert_made x)) e, c.measure-insert-without-components.ensures.1)
 
 enum-known-mode : tie.Need-enum-known-mode
 enum-known-mode c = search rules
@@ -47,13 +47,13 @@ enum-told-2 c = search rules
 measure-insert-without-components-requires-2 : tie.Need-measure-insert-without-components-requires-2
 measure-insert-without-components-requires-2 c κs = search rules
 
-returns-2 : tie.Need-returns-2
-returns-2 c =
+returns_2 : tie.Need-returns-2
+returns_2 c =
     let t = c.before in
     let x = t.before.before.before in
     let a = x.before.before.args in
-    let e = none-counted a.i (array []) a.components (program-none a.i.splice_detail _ _ x.detail.given.1 t.enum-told2.given.1) in
-    (c.measure-insert-without-components2.ensures.0 ∙ ap (λ (x : WithComponents SpliceInsert). measuredOf (insertMade x)) e, c.measure-insert-without-components2.ensures.1)
+    let e = none_counted a.i (array []) a.components (program_none a.i.splice_detail _ _ x.detail.given.1 t.enum-told2.given.1) in
+    (c.measure-insert-without-components2.ensures.0 ∙ ap (λ (x : WithComponents SpliceInsert). measured_of (insert_made x)) e, c.measure-insert-without-components2.ensures.1)
 
 are-immediate-requires : tie.Need-are-immediate-requires
 are-immediate-requires c κs = search rules
@@ -72,10 +72,10 @@ measure-active-requires c κs =
     let n = m.mode.given.0.0 in
     let most : n ≤ 255 = omega arith in
     let l : length (take n s.args.components) ≡ n = length-take-le n s.args.components (omega (arith, full s, most)) in
-    rw c.look.ensures.0 (omega (arith, l, most, survey-bytes k.are-immediate.result (take n s.args.components)))
+    rw c.look.ensures.0 (omega (arith, l, most, survey_bytes k.are-immediate.result (take n s.args.components)))
 
-returns-3 : tie.Need-returns-3
-returns-3 c =
+returns_3 : tie.Need-returns-3
+returns_3 c =
     let l = c.before in
     let k = l.before in
     let m = k.before.before in
@@ -87,18 +87,18 @@ returns-3 c =
     let n = m.mode.given.0.0 in
     let most : n ≤ 255 = omega arith in
     let z : n ≡ count mode = sym (ap count m.mode.given.1) in
-    let b : k.are-immediate.result ≡ immediateIn insert (take (count mode) a.components) = k.are-immediate.ensures ∙ listed-now mode n a.components m.mode.given.1 in
-    let y : l.look.result ≡ surveyed (immediateIn insert (take (count mode) a.components)) (take (count mode) a.components) =
+    let b : k.are-immediate.result ≡ immediate_in insert (take (count mode) a.components) = k.are-immediate.ensures ∙ listed_now mode n a.components m.mode.given.1 in
+    let y : l.look.result ≡ surveyed (immediate_in insert (take (count mode) a.components)) (take (count mode) a.components) =
     l.look.ensures.0 ∙ ap₂ (λ (b : Bool) (n : ℕ). surveyed b (take n a.components)) b z in
     let event : a.i.splice_event_id < 2 ^ 32 = omega arith in
     let bounds = c.measure-active.ensures in (
-      bounds.0 ∙ ap (λ (y : Survey). activeMeasured a.i.reserved mode insert.duration y) y
-          ∙ insert-active a.i insert a.components x.detail.given.1 (omega (arith, full s, z, most)) event (omega (arith, z, most)) bounds.1 bounds.2 bounds.3 (rw z at l.look.ensures.1),
-      active-count a.i.splice_detail insert x.detail.given.1 (omega (arith, z, most)),
+      bounds.0 ∙ ap (λ (y : Survey). active_measured a.i.reserved mode insert.duration y) y
+          ∙ insert_active a.i insert a.components x.detail.given.1 (omega (arith, full s, z, most)) event (omega (arith, z, most)) bounds.1 bounds.2 bounds.3 (rw z at l.look.ensures.1),
+      active_count a.i.splice_detail insert x.detail.given.1 (omega (arith, z, most)),
     )
 
-pub measure-insert-spec : {M : Type 1} → statement M
-measure-insert-spec =
+pub measure_insert_spec : {M : Type 1} → statement M
+measure_insert_spec =
     tie.close
     (tie.spec
     enum-known-detail
@@ -108,9 +108,9 @@ measure-insert-spec =
     enum-known-mode
     enum-told-2
     measure-insert-without-components-requires-2
-    returns-2
+    returns_2
     are-immediate-requires
     cast-look
     look-requires
     measure-active-requires
-    returns-3)
+    returns_3)

@@ -4,7 +4,7 @@ use native.Mathlib.Omega.{arith}
 use Prim.Native.Nat.{ℕ}
 use mathlib.Core.Bool.{Bool, not}
 use Rattle.command_measure.specs.Survey.{measured}
-use Rattle.command_measure.proofs.Making.{measured-time}
+use Rattle.command_measure.proofs.Making.{measured_time}
 use borrow.Author.Rules.{rules}
 use Rattle.command_measure.proofs.measure.measure_time.Statement.{statement}
 use Rattle.command_measure.proofs.measure.measure_time.Tie as tie
@@ -25,9 +25,9 @@ returns : tie.Need-returns
 returns c =
     let size = c.before in
     let a = size.before.before.before.args in
-    c.verdict.ensures ∙ rw (size.before.before.time-fits.ensures, size.before.is-immediate.ensures, size.time-size.ensures.0) (measured-time a.time)
+    c.verdict.ensures ∙ rw (size.before.before.time_fits.ensures, size.before.is-immediate.ensures, size.time-size.ensures.0) (measured_time a.time)
 
-pub measure-time-spec : {M : Type 1} → statement M
-measure-time-spec =
+pub measure_time_spec : {M : Type 1} → statement M
+measure_time_spec =
     tie.close
     (tie.spec time-fits-requires is-immediate-requires time-size-requires verdict-requires returns)

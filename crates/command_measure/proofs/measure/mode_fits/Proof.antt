@@ -17,9 +17,9 @@ enum_told c = search rules
 returns : tie.Need-returns
 returns c = c.time-fits.ensures ∙ rw c.before.before.mode.given.1
 
-returns-2 : tie.Need-returns-2
-returns-2 c = rw c.enum_told.given.1
+returns_2 : tie.Need-returns-2
+returns_2 c = rw c.enum_told.given.1
 
-pub mode-fits-spec : {M : Type 1} → statement M
-mode-fits-spec =
-    tie.close (tie.spec enum-known-mode time-fits-requires enum_told returns returns-2)
+pub mode_fits_spec : {M : Type 1} → statement M
+mode_fits_spec =
+    tie.close (tie.spec enum-known-mode time-fits-requires enum_told returns returns_2)

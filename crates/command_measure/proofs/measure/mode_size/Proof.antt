@@ -23,11 +23,11 @@ add-result c = search rules
 returns : tie.Need-returns
 returns c = (c.time-size.ensures.0 ∙ rw (c.before.before.before.mode.given.1, c.before.is-immediate.ensures), omega (arith, c.time-size.ensures.1))
 
-returns-2 : tie.Need-returns-2
-returns-2 c = (rw c.enum_told.given.1, omega arith)
+returns_2 : tie.Need-returns-2
+returns_2 c = (rw c.enum_told.given.1, omega arith)
 
-pub mode-size-spec : {M : Type 1} → statement M
-mode-size-spec =
+pub mode_size_spec : {M : Type 1} → statement M
+mode_size_spec =
     tie.close
     (tie.spec
     enum-known-mode
@@ -36,4 +36,4 @@ mode-size-spec =
     enum_told
     add-result
     returns
-    returns-2)
+    returns_2)

@@ -15,12 +15,12 @@ enum-known-time c = search rules
 returns : tie.Need-returns
 returns c = rw c.enum_told.given.1
 
-returns-2 : tie.Need-returns-2
-returns-2 c = rw c.enum-told2.given.1
+returns_2 : tie.Need-returns-2
+returns_2 c = rw c.enum-told2.given.1
 
-returns-3 : tie.Need-returns-3
-returns-3 c = rw c.before.time.given.1
+returns_3 : tie.Need-returns-3
+returns_3 c = rw c.before.time.given.1
 
-pub time-fits-spec : {M : Type 1} → statement M
-time-fits-spec =
-    tie.close (tie.spec enum_told enum-told-2 enum-known-time returns returns-2 returns-3)
+pub time_fits_spec : {M : Type 1} → statement M
+time_fits_spec =
+    tie.close (tie.spec enum_told enum-told-2 enum-known-time returns returns_2 returns_3)

@@ -5,9 +5,9 @@ use Rattle.command.specs.Command.{array}
 use Rattle.command.specs.Insert.{count}
 use Rattle.command.specs.declared.components.InsertComponent.{InsertComponent}
 use Rattle.command.specs.declared.insert.SpliceMode.{SpliceMode}
-use Rattle.bit_stores.proofs.Tables.{pens-same}
-use Rattle.command_measure.specs.Fields.{ink, places_of, activeFields}
-use Rattle.command_writer.proofs.Storing.{fits-same, none-active}
+use Rattle.bit_stores.proofs.Tables.{pens_same}
+use Rattle.command_measure.specs.Fields.{ink, places_of, active_fields}
+use Rattle.command_writer.proofs.Storing.{fits_same, none_active}
 use borrow.Author.Rules.{rules}
 use Rattle.command_writer.proofs.insert.store_active.Statement.{statement}
 use Rattle.command_writer.proofs.insert.store_active.Tie as tie
@@ -23,7 +23,7 @@ store-by-program-requires c κs =
     let m = c.before.before in
     let s = m.before.before.before in
     let a = s.args in
-    (m.mode.given.1, fits-same a.out.now a.c _ _ (none-active a.insert (array []) (ap count m.mode.given.1)) s.requires)
+    (m.mode.given.1, fits_same a.out.now a.c _ _ (none_active a.insert (array []) (ap count m.mode.given.1)) s.requires)
 
 enum-known-mode-2 : tie.Need-enum-known-mode-2
 enum-known-mode-2 c = search rules
@@ -33,7 +33,7 @@ store-by-none-requires c κs =
     let t = c.before in
     let s = t.before.before.before.before.before in
     let a = s.args in
-    (none t, fits-same a.out.now a.c _ _ (none-active a.insert (array []) (ap count (none t))) s.requires)
+    (none t, fits_same a.out.now a.c _ _ (none_active a.insert (array []) (ap count (none t))) s.requires)
 
 same_length : tie.Need-same-length
 same_length c = search rules
@@ -43,7 +43,7 @@ returns c =
     let q = c.before.before in
     let t = q.before.before in
     let a = t.before.before.before.before.before.args in
-    pens-same a.out.now a.c _ _ _ _ (ap ink (sym (none-active a.insert (array []) (ap count (none t))))) q.store-by-none.ensures
+    pens_same a.out.now a.c _ _ _ _ (ap ink (sym (none_active a.insert (array []) (ap count (none t))))) q.store-by-none.ensures
 
 blanks-requires : tie.Need-blanks-requires
 blanks-requires c κs = search rules
@@ -53,30 +53,30 @@ store-listed-requires c κs =
     let m = c.before.before.before.before in
     let s = m.before.before.before in
     let a = s.args in
-    (m.mode2.given.1, fits-same a.out.now a.c _ _ (ap (λ (cs : List InsertComponent). activeFields a.insert (places_of a.insert cs)) (sym c.blanks.ensures)) s.requires)
+    (m.mode2.given.1, fits_same a.out.now a.c _ _ (ap (λ (cs : List InsertComponent). active_fields a.insert (places_of a.insert cs)) (sym c.blanks.ensures)) s.requires)
 
 same-length-2 : tie.Need-same-length-2
 same-length-2 c = search rules
 
-returns-2 : tie.Need-returns-2
-returns-2 c =
+returns_2 : tie.Need-returns-2
+returns_2 c =
     let q = c.before.before in
     let m = q.before.before.before in
     let a = m.before.before.before.args in
-    pens-same a.out.now a.c _ _ _ _ (ap ink (sym (none-active a.insert (array []) (ap count m.mode.given.1)))) q.store-by-program.ensures
+    pens_same a.out.now a.c _ _ _ _ (ap ink (sym (none_active a.insert (array []) (ap count m.mode.given.1)))) q.store-by-program.ensures
 
 same-length-3 : tie.Need-same-length-3
 same-length-3 c = search rules
 
-returns-3 : tie.Need-returns-3
-returns-3 c =
+returns_3 : tie.Need-returns-3
+returns_3 c =
     let q = c.before.before in
     let b = q.before in
     let a = b.before.before.before.before.before.before.before.args in
-    pens-same a.out.now a.c _ _ _ _ (ap (λ (cs : List InsertComponent). ink (activeFields a.insert (places_of a.insert cs))) b.blanks.ensures) q.store-listed.ensures
+    pens_same a.out.now a.c _ _ _ _ (ap (λ (cs : List InsertComponent). ink (active_fields a.insert (places_of a.insert cs))) b.blanks.ensures) q.store-listed.ensures
 
-pub store-active-spec : {M : Type 1} → statement M
-store-active-spec =
+pub store_active_spec : {M : Type 1} → statement M
+store_active_spec =
     tie.close
     (tie.spec
     enum-known-mode
@@ -88,6 +88,6 @@ store-active-spec =
     blanks-requires
     store-listed-requires
     same-length-2
-    returns-2
+    returns_2
     same-length-3
-    returns-3)
+    returns_3)

@@ -3,8 +3,8 @@ use Prim.Native.Nat.{◌+◌, ◌*◌, ◌%◌}
 use mathlib.Core.Path.{◌≡◌, ◌∙◌}
 use native.Mathlib.Omega.{arith}
 use Rattle.splice_time.specs.declared.break_duration.Break.{Break}
-use Rattle.command_measure.specs.Fields.{breakFields}
-use Rattle.command_writer.proofs.Storing.{pens-all, break-bits, return-bit}
+use Rattle.command_measure.specs.Fields.{break_fields}
+use Rattle.command_writer.proofs.Storing.{pens_all, break_bits, return_bit}
 use borrow.Author.Rules.{rules}
 use Rattle.command_writer.proofs.insert.store_break.Statement.{statement}
 use Rattle.command_writer.proofs.insert.store_break.Tie as tie
@@ -35,12 +35,12 @@ returns c =
     let p = c.before.before in
     let f = p.before.before in
     let a = f.before.before.before.args in
-    let e = f.wide.ensures.0 ∙ f.before.flag.ensures ∙ return-bit a.d.return_mode in
+    let e = f.wide.ensures.0 ∙ f.before.flag.ensures ∙ return_bit a.d.return_mode in
     let y = f.wide.result * 0x8000000000 + 0x7E00000000 + a.d.duration % 0x200000000 in
-    pens-all a.out.now a.c _ _ (breakFields (Break.Lasts a.d)) 40 y (break-bits a.d y (omega (arith, e))) p.put-bits.ensures
+    pens_all a.out.now a.c _ _ (break_fields (Break.Lasts a.d)) 40 y (break_bits a.d y (omega (arith, e))) p.put-bits.ensures
 
-pub store-break-spec : {M : Type 1} → statement M
-store-break-spec =
+pub store_break_spec : {M : Type 1} → statement M
+store_break_spec =
     tie.close
     (tie.spec
     flag-requires

@@ -2,11 +2,11 @@
 use Prim.Native.Nat.{◌+◌, ◌*◌}
 use mathlib.Core.Path.{◌≡◌, ap, ◌∙◌}
 use native.Mathlib.Omega.{arith}
-use Rattle.command.specs.Insert.{outOfNetwork, byProgram}
+use Rattle.command.specs.Insert.{out_of_network, by_program}
 use Rattle.splice_time.specs.Break.{lasting}
-use Rattle.table.specs.Table.{flagNumber}
-use Rattle.command_measure.specs.Fields.{insertFlags}
-use Rattle.command_writer.proofs.Storing.{pens-all, flags-bits, network-bit}
+use Rattle.table.specs.Table.{flag_number}
+use Rattle.command_measure.specs.Fields.{insert_flags}
+use Rattle.command_writer.proofs.Storing.{pens_all, flags_bits, network_bit}
 use borrow.Author.Rules.{rules}
 use Rattle.command_writer.proofs.insert.store_flags.Statement.{statement}
 use Rattle.command_writer.proofs.insert.store_flags.Tie as tie
@@ -71,16 +71,16 @@ returns c =
     let f₁ = f₂.before.before in
     let a = f₁.before.before.before.args in
     let i = a.insert in
-    let e₁ = f₁.wide.ensures.0 ∙ f₁.before.flag.ensures ∙ network-bit i.network_indicator in
-    let e₂ = f₂.flag-number.ensures.0 ∙ ap flagNumber f₂.before.is-program.ensures in
-    let e₃ = f₃.flag-number2.ensures.0 ∙ ap flagNumber f₃.before.lasts.ensures in
+    let e₁ = f₁.wide.ensures.0 ∙ f₁.before.flag.ensures ∙ network_bit i.network_indicator in
+    let e₂ = f₂.flag-number.ensures.0 ∙ ap flag_number f₂.before.is-program.ensures in
+    let e₃ = f₃.flag-number2.ensures.0 ∙ ap flag_number f₃.before.lasts.ensures in
     let e₄ = f₄.flag-number3.ensures.0 in
     let y = f₁.wide.result * 128 + f₂.flag-number.result * 64 + f₃.flag-number2.result * 32 + f₄.flag-number3.result * 16 + 15 in
-    pens-all a.out.now a.c _ _ (insertFlags i a.at_once) 8 y
-    (flags-bits (outOfNetwork i.network_indicator) (byProgram i.splice_mode) (lasting i.duration) a.at_once y (omega (arith, e₁, e₂, e₃, e₄))) p.put-bits.ensures
+    pens_all a.out.now a.c _ _ (insert_flags i a.at_once) 8 y
+    (flags_bits (out_of_network i.network_indicator) (by_program i.splice_mode) (lasting i.duration) a.at_once y (omega (arith, e₁, e₂, e₃, e₄))) p.put-bits.ensures
 
-pub store-flags-spec : {M : Type 1} → statement M
-store-flags-spec =
+pub store_flags_spec : {M : Type 1} → statement M
+store_flags_spec =
     tie.close
     (tie.spec
     flag-requires

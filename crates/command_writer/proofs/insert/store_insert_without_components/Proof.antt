@@ -4,10 +4,10 @@ use mathlib.Core.Path.{◌≡◌, refl, ap, sym, ◌∙◌}
 use native.Mathlib.Omega.{arith}
 use mathlib.Core.List.{List, [], ◌∷◌}
 use Rattle.command.specs.Command.{array}
-use Rattle.bit_stores.proofs.Tables.{Goes, pens-same}
+use Rattle.bit_stores.proofs.Tables.{Goes, pens_same}
 use Rattle.table.specs.Writing.{Field, bits}
-use Rattle.command_measure.specs.Fields.{ink, places_of, activeFields}
-use Rattle.command_writer.proofs.Storing.{pens-all, fits-same, cancel-fields, active-insert, head-bits, after-event}
+use Rattle.command_measure.specs.Fields.{ink, places_of, active_fields}
+use Rattle.command_writer.proofs.Storing.{pens_all, fits_same, cancel_fields, active_insert_lem, head_bits, after_event}
 use borrow.Author.Rules.{rules}
 use Rattle.command_writer.proofs.insert.store_insert_without_components.Statement.{statement}
 use Rattle.command_writer.proofs.insert.store_insert_without_components.Tie as tie
@@ -17,14 +17,14 @@ one : (p : tie.After-put-bits2) →
     let d = p.before.before.before in
     let a = d.before.before.before.before.args in
     let x = d.detail.given.0.0 in
-    let more = activeFields x (places_of x (array [])) in
+    let more = active_fields x (places_of x (array [])) in
     Goes a.out.now a.c (ink (bits 32 a.i.splice_event_id ∷ bits 1 0 ∷ bits 7 a.i.reserved ∷ more)) p.put-bits2.new.0 p.put-bits2.result (ink more)
 one p =
     let d = p.before.before.before in
     let v = d.before.before in
     let s = v.before.before in
     let a = s.args in
-    after-event a.out.now a.c _ _ a.i _ (array []) _ d.detail.given.1 v.event-number.ensures.0 s.requires p.put-bits2.ensures
+    after_event a.out.now a.c _ _ a.i _ (array []) _ d.detail.given.1 v.event-number.ensures.0 s.requires p.put-bits2.ensures
 
 event-number-requires : tie.Need-event-number-requires
 event-number-requires c κs = search rules
@@ -57,23 +57,23 @@ returns c =
     let v = t.before.before in
     let a = v.before.before.args in
     let y = v.event-number.result + 128 in
-    let e = cancel-fields a.i (array []) t.enum_told.given.1 in
-    let k = head-bits a.i.splice_event_id 1 a.i.reserved y [] (omega arith) (omega (arith, v.event-number.ensures.0)) in
-    pens-same a.out.now a.c _ _ _ _ (ap ink (sym e)) (pens-all a.out.now a.c _ _ (bits 32 a.i.splice_event_id ∷ bits 1 1 ∷ bits 7 a.i.reserved ∷ []) 40 y k p.put-bits.ensures)
+    let e = cancel_fields a.i (array []) t.enum_told.given.1 in
+    let k = head_bits a.i.splice_event_id 1 a.i.reserved y [] (omega arith) (omega (arith, v.event-number.ensures.0)) in
+    pens_same a.out.now a.c _ _ _ _ (ap ink (sym e)) (pens_all a.out.now a.c _ _ (bits 32 a.i.splice_event_id ∷ bits 1 1 ∷ bits 7 a.i.reserved ∷ []) 40 y k p.put-bits.ensures)
 
 same-length-2 : tie.Need-same-length-2
 same-length-2 c = search rules
 
-returns-2 : tie.Need-returns-2
-returns-2 c =
+returns_2 : tie.Need-returns-2
+returns_2 c =
     let q = c.before.before in
     let p = q.before.before.before.before in
     let d = p.before.before.before in
     let a = d.before.before.before.before.args in
-    pens-same a.out.now a.c _ _ _ _ (ap ink (sym (active-insert a.i _ (array []) d.detail.given.1))) ((one p).both _ _ q.store-active.ensures)
+    pens_same a.out.now a.c _ _ _ _ (ap ink (sym (active_insert_lem a.i _ (array []) d.detail.given.1))) ((one p).both _ _ q.store-active.ensures)
 
-pub store-insert-without-components-spec : {M : Type 1} → statement M
-store-insert-without-components-spec =
+pub store_insert_without_components_spec : {M : Type 1} → statement M
+store_insert_without_components_spec =
     tie.close
     (tie.spec
     event-number-requires
@@ -86,4 +86,4 @@ store-insert-without-components-spec =
     same_length
     returns
     same-length-2
-    returns-2)
+    returns_2)

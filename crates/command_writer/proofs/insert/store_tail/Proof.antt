@@ -2,8 +2,8 @@
 use Prim.Native.Nat.{◌+◌, ◌*◌}
 use mathlib.Core.Path.{◌≡◌}
 use native.Mathlib.Omega.{arith}
-use Rattle.command_measure.specs.Fields.{tailFields}
-use Rattle.command_writer.proofs.Storing.{pens-all, tail-bits}
+use Rattle.command_measure.specs.Fields.{tail_fields}
+use Rattle.command_writer.proofs.Storing.{pens_all, tail_bits}
 use borrow.Author.Rules.{rules}
 use Rattle.command_writer.proofs.insert.store_tail.Statement.{statement}
 use Rattle.command_writer.proofs.insert.store_tail.Tie as tie
@@ -40,11 +40,11 @@ returns c =
     let h = w.before.wide.ensures in
     let k = w.wide2.ensures in
     let y = a.program-id * 0x10000 + w.before.wide.result * 0x100 + w.wide2.result in
-    pens-all a.out.now a.c _ _ (tailFields a.program-id a.avail a.expected) 32 y
-    (tail-bits a.program-id a.avail a.expected y (omega (arith, h.0, h.1)) (omega (arith, k.0, k.1)) (omega (arith, h.0, k.0))) p.put-bits.ensures
+    pens_all a.out.now a.c _ _ (tail_fields a.program-id a.avail a.expected) 32 y
+    (tail_bits a.program-id a.avail a.expected y (omega (arith, h.0, h.1)) (omega (arith, k.0, k.1)) (omega (arith, h.0, k.0))) p.put-bits.ensures
 
-pub store-tail-spec : {M : Type 1} → statement M
-store-tail-spec =
+pub store_tail_spec : {M : Type 1} → statement M
+store_tail_spec =
     tie.close
     (tie.spec
     mul-put-bits

@@ -12,9 +12,9 @@ turned-requires c κs = search rules
 otherwise : tie.Need-returns-257
 otherwise c = c.turned.ensures
 
-pub turned-48-spec : {M : Type 1} → statement M
+pub turned_48_spec : {M : Type 1} → statement M
 unfolding turns turn reversed
-turned-48-spec =
+turned_48_spec =
     tie.close
     (tie.spec
     turned-requires

@@ -12,9 +12,9 @@ turned-requires c κs = search rules
 otherwise : tie.Need-returns-257
 otherwise c = c.turned.ensures
 
-pub turned-40-spec : {M : Type 1} → statement M
+pub turned_40_spec : {M : Type 1} → statement M
 unfolding turns turn reversed
-turned-40-spec =
+turned_40_spec =
     tie.close
     (tie.spec
     turned-requires

@@ -1,6 +1,6 @@
 -- `daterange_line::digits::digit` meets its contract.
 use borrow.Author.Rules.{rules}
-use Rattle.daterange_line.proofs.Octets.{digit-is}
+use Rattle.daterange_line.proofs.Octets.{digit_is}
 use Rattle.daterange_line.proofs.digits.digit.Statement.{statement}
 use Rattle.daterange_line.proofs.digits.digit.Tie as tie
 
@@ -11,7 +11,7 @@ add-result : tie.Need-overflow-add-result
 add-result c = search rules
 
 returns : tie.Need-returns
-returns c = digit-is _ c.requires
+returns c = digit_is _ c.requires
 
-pub digit-spec : {M : Type 1} → statement M
-digit-spec = tie.close (tie.spec mul-result add-result returns)
+pub digit_spec : {M : Type 1} → statement M
+digit_spec = tie.close (tie.spec mul-result add-result returns)

@@ -6,8 +6,8 @@ use Rattle.daterange_line.proofs.digits.is_x.Tie as tie
 returns : tie.Need-returns
 returns c = rw (eq-eqb _ _ c.if1.true)
 
-returns-2 : tie.Need-returns-2
-returns-2 c = rw (ne_eqb _ _ c.if1.false)
+returns_2 : tie.Need-returns-2
+returns_2 c = rw (ne_eqb _ _ c.if1.false)
 
-pub is-x-spec : {M : Type 1} → statement M
-is-x-spec = tie.close (tie.spec returns returns-2)
+pub is_x_spec : {M : Type 1} → statement M
+is_x_spec = tie.close (tie.spec returns returns_2)

@@ -3,8 +3,8 @@ use mathlib.Core.Path.{◌≡◌, refl, sym, ◌∙◌}
 use native.Mathlib.Omega.{arith}
 use lib.ListN.{length}
 use Rattle.daterange_line.specs.Private.{earlier}
-use Rattle.attribute_list.proofs.Completes.{within-line}
-use Rattle.daterange_line.proofs.Searches.{earlier-end, earlier-none, earlier-fault, earlier-found, earlier-next}
+use Rattle.attribute_list.proofs.Completes.{within_line}
+use Rattle.daterange_line.proofs.Searches.{earlier_end, earlier_none, earlier_fault, earlier_found, earlier_next}
 use borrow.Author.Rules.{rules}
 use Rattle.daterange_line.proofs.earlier.has_earlier.Statement.{statement}
 use Rattle.daterange_line.proofs.earlier.has_earlier.Tie as tie
@@ -19,7 +19,7 @@ loop-holds : tie.Need-loop-init invariant-loop decreases-loop
 loop-holds c = refl
 
 returns : tie.Need-returns invariant-loop decreases-loop
-returns c = sym (c.before.before.loop.invariant ∙ earlier-end _ _ _ _ _ c.if1.true)
+returns c = sym (c.before.before.loop.invariant ∙ earlier_end _ _ _ _ _ c.if1.true)
 
 cut-at-requires : tie.Need-cut-at-requires invariant-loop decreases-loop
 cut-at-requires c κs = search rules
@@ -27,14 +27,14 @@ cut-at-requires c κs = search rules
 enum_told : tie.Need-enum-told invariant-loop decreases-loop
 enum_told c = search rules
 
-returns-2 : tie.Need-returns-2 invariant-loop decreases-loop
-returns-2 c = sym (c.before.before.before.before.before.loop.invariant ∙ earlier-fault _ _ _ _ _ _ c.before.before.before.before.loop-test.true c.before.before.before.if1.false c.before.before.cut_at.ensures c.enum_told.given.1)
+returns_2 : tie.Need-returns-2 invariant-loop decreases-loop
+returns_2 c = sym (c.before.before.before.before.before.loop.invariant ∙ earlier_fault _ _ _ _ _ _ c.before.before.before.before.loop-test.true c.before.before.before.if1.false c.before.before.cut_at.ensures c.enum_told.given.1)
 
 enum-known-n : tie.Need-enum-known-n invariant-loop decreases-loop
 enum-known-n c = search rules
 
 add-after : tie.Need-overflow-add-after invariant-loop decreases-loop
-add-after c = omega (arith, within-line c.before.before.before.before.before.before.before.before.before.args.line.now c.before.before.before.before.before.before.loop.at _ _ _ _ c.before.before.before.cut_at.ensures c.before.n.given.1)
+add-after c = omega (arith, within_line c.before.before.before.before.before.before.before.before.before.args.line.now c.before.before.before.before.before.before.loop.at _ _ _ _ c.before.before.before.cut_at.ensures c.before.n.given.1)
 
 sub-same-bytes : tie.Need-overflow-sub-same-bytes invariant-loop decreases-loop
 sub-same-bytes c = omega arith
@@ -43,37 +43,37 @@ part-same-bytes-start : tie.Need-slice-bounds-same-bytes-start invariant-loop de
 part-same-bytes-start c = omega arith
 
 part-same-bytes-end : tie.Need-slice-bounds-same-bytes-end invariant-loop decreases-loop
-part-same-bytes-end c = omega (arith, within-line c.before.before.before.before.before.before.before.before.before.args.line.now c.before.before.before.before.before.before.loop.at _ _ _ _ c.before.before.before.cut_at.ensures c.before.n.given.1)
+part-same-bytes-end c = omega (arith, within_line c.before.before.before.before.before.before.before.before.before.args.line.now c.before.before.before.before.before.before.loop.at _ _ _ _ c.before.before.before.cut_at.ensures c.before.n.given.1)
 
 same-bytes-requires : tie.Need-same-bytes-requires invariant-loop decreases-loop
 same-bytes-requires c κs = search rules
 
-returns-3 : tie.Need-returns-3 invariant-loop decreases-loop
-returns-3 c = sym (c.before.before.before.before.before.before.before.before.before.loop.invariant ∙ earlier-found _ _ _ _ _ _ _ _ _ c.before.before.before.before.before.before.before.before.loop-test.true c.before.before.before.before.before.before.before.if1.false c.before.before.before.before.before.before.cut_at.ensures c.before.before.before.before.n.given.1 (sym c.before.same_bytes.ensures ∙ c.if2.true))
+returns_3 : tie.Need-returns-3 invariant-loop decreases-loop
+returns_3 c = sym (c.before.before.before.before.before.before.before.before.before.loop.invariant ∙ earlier_found _ _ _ _ _ _ _ _ _ c.before.before.before.before.before.before.before.before.loop-test.true c.before.before.before.before.before.before.before.if1.false c.before.before.before.before.before.before.cut_at.ensures c.before.before.before.before.n.given.1 (sym c.before.same_bytes.ensures ∙ c.if2.true))
 
-size-requires : tie.Need-size-requires invariant-loop decreases-loop
-size-requires c κs = omega (arith, within-line c.before.before.before.before.before.before.before.before.before.before.before.before.args.line.now c.before.before.before.before.before.before.before.before.before.loop.at _ _ _ _ c.before.before.before.before.before.before.cut_at.ensures c.before.before.before.before.n.given.1)
+size_requires : tie.Need-size-requires invariant-loop decreases-loop
+size_requires c κs = omega (arith, within_line c.before.before.before.before.before.before.before.before.before.before.before.before.args.line.now c.before.before.before.before.before.before.before.before.before.loop.at _ _ _ _ c.before.before.before.before.before.before.cut_at.ensures c.before.before.before.before.n.given.1)
 
 add_at : tie.Need-overflow-add-at invariant-loop decreases-loop
-add_at c = omega (arith, c.size.ensures, within-line c.before.before.before.before.before.before.before.before.before.before.before.before.before.args.line.now c.before.before.before.before.before.before.before.before.before.before.loop.at _ _ _ _ c.before.before.before.before.before.before.before.cut_at.ensures c.before.before.before.before.before.n.given.1)
+add_at c = omega (arith, c.size.ensures, within_line c.before.before.before.before.before.before.before.before.before.before.before.before.before.args.line.now c.before.before.before.before.before.before.before.before.before.before.loop.at _ _ _ _ c.before.before.before.before.before.before.before.cut_at.ensures c.before.before.before.before.before.n.given.1)
 
 add-at-2 : tie.Need-overflow-add-at-2 invariant-loop decreases-loop
-add-at-2 c = omega (arith, c.size.ensures, within-line c.before.before.before.before.before.before.before.before.before.before.before.before.before.args.line.now c.before.before.before.before.before.before.before.before.before.before.loop.at _ _ _ _ c.before.before.before.before.before.before.before.cut_at.ensures c.before.before.before.before.before.n.given.1)
+add-at-2 c = omega (arith, c.size.ensures, within_line c.before.before.before.before.before.before.before.before.before.before.before.before.before.args.line.now c.before.before.before.before.before.before.before.before.before.before.loop.at _ _ _ _ c.before.before.before.before.before.before.before.cut_at.ensures c.before.before.before.before.before.n.given.1)
 
-sub-left : tie.Need-overflow-sub-left invariant-loop decreases-loop
-sub-left c = omega arith
+sub_left : tie.Need-overflow-sub-left invariant-loop decreases-loop
+sub_left c = omega arith
 
 loop-less : tie.Need-loop-smaller invariant-loop decreases-loop
 loop-less c = omega arith
 
 loop-again : tie.Need-loop-preserved invariant-loop decreases-loop
-loop-again c = c.before.before.before.before.before.before.before.before.before.before.loop.invariant ∙ earlier-next _ _ _ _ _ _ _ _ _ c.before.before.before.before.before.before.before.before.before.loop-test.true c.before.before.before.before.before.before.before.before.if1.false c.before.before.before.before.before.before.before.cut_at.ensures c.before.before.before.before.before.n.given.1 _ (sym c.before.before.same_bytes.ensures ∙ c.before.if2.false) c.size.ensures
+loop-again c = c.before.before.before.before.before.before.before.before.before.before.loop.invariant ∙ earlier_next _ _ _ _ _ _ _ _ _ c.before.before.before.before.before.before.before.before.before.loop-test.true c.before.before.before.before.before.before.before.before.if1.false c.before.before.before.before.before.before.before.cut_at.ensures c.before.before.before.before.before.n.given.1 _ (sym c.before.before.same_bytes.ensures ∙ c.before.if2.false) c.size.ensures
 
-returns-4 : tie.Need-returns-4 invariant-loop decreases-loop
-returns-4 c = sym (c.before.loop.invariant ∙ earlier-none _ _ _ _ _ c.loop-test.false)
+returns_4 : tie.Need-returns-4 invariant-loop decreases-loop
+returns_4 c = sym (c.before.loop.invariant ∙ earlier_none _ _ _ _ _ c.loop-test.false)
 
-pub has-earlier-spec : {M : Type 1} → statement M
-has-earlier-spec =
+pub has_earlier_spec : {M : Type 1} → statement M
+has_earlier_spec =
     tie.close
     (tie.spec
     invariant-loop
@@ -82,18 +82,18 @@ has-earlier-spec =
     returns
     cut-at-requires
     enum_told
-    returns-2
+    returns_2
     enum-known-n
     add-after
     sub-same-bytes
     part-same-bytes-start
     part-same-bytes-end
     same-bytes-requires
-    returns-3
-    size-requires
+    returns_3
+    size_requires
     add_at
     add-at-2
-    sub-left
+    sub_left
     loop-less
     loop-again
-    returns-4)
+    returns_4)

@@ -22,10 +22,10 @@ add-result-5 c = search rules
 returns : tie.Need-returns
 returns c = rw c.if1.true (omega arith)
 
-returns-2 : tie.Need-returns-2
-returns-2 c = rw c.if1.false (omega arith)
+returns_2 : tie.Need-returns-2
+returns_2 c = rw c.if1.false (omega arith)
 
-pub size-spec : {M : Type 1} → statement M
-size-spec =
+pub size_spec : {M : Type 1} → statement M
+size_spec =
     tie.close
-    (tie.spec add-result add-result-2 add-result-3 add-result-4 add-result-5 returns returns-2)
+    (tie.spec add-result add-result-2 add-result-3 add-result-4 add-result-5 returns returns_2)

@@ -12,8 +12,8 @@ add-result-2 c = search rules
 returns : tie.Need-returns
 returns c = rw c.if1.true
 
-returns-2 : tie.Need-returns-2
-returns-2 c = rw c.if1.false
+returns_2 : tie.Need-returns-2
+returns_2 c = rw c.if1.false
 
-pub value-from-spec : {M : Type 1} → statement M
-value-from-spec = tie.close (tie.spec add-result add-result-2 returns returns-2)
+pub value_from_spec : {M : Type 1} → statement M
+value_from_spec = tie.close (tie.spec add-result add-result-2 returns returns_2)

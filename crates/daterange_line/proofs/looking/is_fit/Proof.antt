@@ -3,20 +3,20 @@ use mathlib.Core.Path.{◌≡◌, refl}
 use mathlib.Core.Bool.{Bool, true, false}
 use mathlib.Core.List.{List}
 use Prim.Native.Nat.{ℕ}
-use Rattle.daterange_line.specs.Reading.{fitsFor}
-use Rattle.attribute_list.specs.Cutting.{valueIn}
+use Rattle.daterange_line.specs.Reading.{fits_for}
+use Rattle.attribute_list.specs.Cutting.{value_in}
 use Rattle.daterange_line.specs.declared.Known.TheVariants.{Id, Date}
 use borrow.Author.Rules.{rules}
 use Rattle.daterange_line.proofs.looking.is_fit.Statement.{statement}
 use Rattle.daterange_line.proofs.looking.is_fit.Tie as tie
 
-id-quoted : (q : Bool) (v : List ℕ) → q ≡ fitsFor Id (valueIn q v)
-id-quoted true v = refl
-id-quoted false v = refl
+id_quoted : (q : Bool) (v : List ℕ) → q ≡ fits_for Id (value_in q v)
+id_quoted true v = refl
+id_quoted false v = refl
 
-date-quoted : (q : Bool) (v : List ℕ) → q ≡ fitsFor Date (valueIn q v)
-date-quoted true v = refl
-date-quoted false v = refl
+date_quoted : (q : Bool) (v : List ℕ) → q ≡ fits_for Date (value_in q v)
+date_quoted true v = refl
+date_quoted false v = refl
 
 enum_told : tie.Need-enum-told
 enum_told c = search rules
@@ -36,20 +36,20 @@ is-hexadecimal-requires c κs = search rules
 enum-told-4 : tie.Need-enum-told-4
 enum-told-4 c = search rules
 
-returns-2 : tie.Need-returns-2
-returns-2 c = rw c.enum_told.given.1 (id-quoted _ _)
+returns_2 : tie.Need-returns-2
+returns_2 c = rw c.enum_told.given.1 (id_quoted _ _)
 
-returns-3 : tie.Need-returns-3
-returns-3 c = rw c.enum-told2.given.1 (date-quoted _ _)
+returns_3 : tie.Need-returns-3
+returns_3 c = rw c.enum-told2.given.1 (date_quoted _ _)
 
-returns-4 : tie.Need-returns-4
-returns-4 c = rw (c.before.before.enum-told3.given.1, c.before.if1.false) c.is-hexadecimal.ensures
+returns_4 : tie.Need-returns-4
+returns_4 c = rw (c.before.before.enum-told3.given.1, c.before.if1.false) c.is-hexadecimal.ensures
 
-returns-5 : tie.Need-returns-5
-returns-5 c = search rules
+returns_5 : tie.Need-returns-5
+returns_5 c = search rules
 
-pub is-fit-spec : {M : Type 1} → statement M
-is-fit-spec =
+pub is_fit_spec : {M : Type 1} → statement M
+is_fit_spec =
     tie.close
     (tie.spec
     enum_told
@@ -58,7 +58,7 @@ is-fit-spec =
     returns
     is-hexadecimal-requires
     enum-told-4
-    returns-2
-    returns-3
-    returns-4
-    returns-5)
+    returns_2
+    returns_3
+    returns_4
+    returns_5)

@@ -25,20 +25,20 @@ returns c = rw (c.before.before.before.word.given.1, eq-eqb _ _ c.if1.true)
 enum-told-3 : tie.Need-enum-told-3
 enum-told-3 c = search rules
 
-returns-2 : tie.Need-returns-2
-returns-2 c = rw (c.before.enum_told.given.1, c.or_else.ensures)
+returns_2 : tie.Need-returns-2
+returns_2 c = rw (c.before.enum_told.given.1, c.or_else.ensures)
 
-returns-3 : tie.Need-returns-3
-returns-3 c = rw (c.before.enum-told2.given.1, c.or-else2.ensures)
+returns_3 : tie.Need-returns-3
+returns_3 c = rw (c.before.enum-told2.given.1, c.or-else2.ensures)
 
-returns-4 : tie.Need-returns-4
-returns-4 c = rw (c.before.before.before.word.given.1, ne_eqb _ _ c.if1.false)
+returns_4 : tie.Need-returns-4
+returns_4 c = rw (c.before.before.before.word.given.1, ne_eqb _ _ c.if1.false)
 
-returns-5 : tie.Need-returns-5
-returns-5 c = search rules
+returns_5 : tie.Need-returns-5
+returns_5 c = search rules
 
-pub note-spec : {M : Type 1} → statement M
-note-spec =
+pub note_spec : {M : Type 1} → statement M
+note_spec =
     tie.close
     (tie.spec
     enum_told
@@ -48,7 +48,7 @@ note-spec =
     enum-known-word
     returns
     enum-told-3
-    returns-2
-    returns-3
-    returns-4
-    returns-5)
+    returns_2
+    returns_3
+    returns_4
+    returns_5)

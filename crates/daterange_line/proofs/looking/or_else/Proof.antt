@@ -6,8 +6,8 @@ use Rattle.daterange_line.proofs.looking.or_else.Tie as tie
 returns : tie.Need-returns
 returns c = rw (eq-eqb _ _ c.if1.true)
 
-returns-2 : tie.Need-returns-2
-returns-2 c = rw (ne_eqb _ _ c.if1.false)
+returns_2 : tie.Need-returns-2
+returns_2 c = rw (ne_eqb _ _ c.if1.false)
 
-pub or-else-spec : {M : Type 1} → statement M
-or-else-spec = tie.close (tie.spec returns returns-2)
+pub or_else_spec : {M : Type 1} → statement M
+or_else_spec = tie.close (tie.spec returns returns_2)

@@ -13,8 +13,8 @@ add-result-2 c = search rules
 returns : tie.Need-returns
 returns c = rw (lt-ltb _ _ c.if1.true)
 
-returns-2 : tie.Need-returns-2
-returns-2 c = rw (le-ltb _ _ c.if1.false)
+returns_2 : tie.Need-returns-2
+returns_2 c = rw (le-ltb _ _ c.if1.false)
 
-pub capital-spec : {M : Type 1} → statement M
-capital-spec = tie.close (tie.spec add-result add-result-2 returns returns-2)
+pub capital_spec : {M : Type 1} → statement M
+capital_spec = tie.close (tie.spec add-result add-result-2 returns returns_2)

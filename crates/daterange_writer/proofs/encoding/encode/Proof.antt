@@ -6,14 +6,14 @@ use native.Mathlib.Omega.{arith}
 use lib.ListN.{length, take, length-set}
 use lib.Seq.{take_all}
 use Rattle.table.specs.Lent.{stored}
-use Rattle.table.proofs.Stores.{stored-nil, length-stored}
-use Rattle.daterange_writer.specs.Writing.{hexOf}
-use Rattle.daterange_writer.proofs.Digits.{hex-store}
+use Rattle.table.proofs.Stores.{stored_nil, length_stored}
+use Rattle.daterange_writer.specs.Writing.{hex_of}
+use Rattle.daterange_writer.proofs.Digits.{hex_store}
 use Rattle.daterange_writer.proofs.encoding.encode.Statement.{statement}
 use Rattle.daterange_writer.proofs.encoding.encode.Tie as tie
 
 abbrev invariant-loop : tie.invariant-loop
-invariant-loop target₀ at section i₀ target i = (i ≤ length section) × (target ≡ stored target₀ at (hexOf (take i section)))
+invariant-loop target₀ at section i₀ target i = (i ≤ length section) × (target ≡ stored target₀ at (hex_of (take i section)))
 
 abbrev decreases-loop : tie.decreases-loop
 decreases-loop target₀ at section i₀ target i = length section - i
@@ -21,11 +21,11 @@ decreases-loop target₀ at section i₀ target i = length section - i
 kept : (c : tie.At-loop invariant-loop decreases-loop) → length c.loop.target ≡ length c.before.before.before.args.target.now
 kept c =
     let a = c.before.before.before.args in
-    ap length c.loop.invariant.1 ∙ length-stored a.target.now a.at (hexOf (take c.loop.i a.section.now))
+    ap length c.loop.invariant.1 ∙ length_stored a.target.now a.at (hex_of (take c.loop.i a.section.now))
 
 loop-holds : tie.Need-loop-init invariant-loop decreases-loop
-unfolding hexOf
-loop-holds c = (omega arith, sym (stored-nil c.before.before.args.target.now c.before.before.args.at))
+unfolding hex_of
+loop-holds c = (omega arith, sym (stored_nil c.before.before.args.target.now c.before.before.args.at))
 
 shared-slice-read-b : tie.Need-shared-slice-read-b invariant-loop decreases-loop
 shared-slice-read-b c = omega arith
@@ -58,16 +58,16 @@ loop-less : tie.Need-loop-smaller invariant-loop decreases-loop
 loop-less c = omega arith
 
 loop-again : tie.Need-loop-preserved invariant-loop decreases-loop
-loop-again c = (omega arith, rw c.before.before.before.before.loop.invariant.1 (hex-store c.before.before.before.before.before.before.before.args.section.now c.before.before.before.before.loop.i c.before.before.before.loop-test.true c.before.before.before.before.before.before.before.args.target.now c.before.before.before.before.before.before.before.args.at _ _ c.before.before.before.before.before.before.before.requires c.before.capital.ensures c.capital2.ensures))
+loop-again c = (omega arith, rw c.before.before.before.before.loop.invariant.1 (hex_store c.before.before.before.before.before.before.before.args.section.now c.before.before.before.before.loop.i c.before.before.before.loop-test.true c.before.before.before.before.before.before.before.args.target.now c.before.before.before.before.before.before.before.args.at _ _ c.before.before.before.before.before.before.before.requires c.before.capital.ensures c.capital2.ensures))
 
 same_length : tie.Need-same-length invariant-loop decreases-loop
 same_length c = kept c.before
 
 returns : tie.Need-returns invariant-loop decreases-loop
-returns c = c.before.loop.invariant.1 ∙ ap (λ (s : List ℕ). stored c.before.before.before.before.args.target.now c.before.before.before.before.args.at (hexOf s)) (take_all c.before.loop.i c.before.before.before.before.args.section.now (omega arith))
+returns c = c.before.loop.invariant.1 ∙ ap (λ (s : List ℕ). stored c.before.before.before.before.args.target.now c.before.before.before.before.args.at (hex_of s)) (take_all c.before.loop.i c.before.before.before.before.args.section.now (omega arith))
 
-pub encode-spec : {M : Type 1} → statement M
-encode-spec =
+pub encode_spec : {M : Type 1} → statement M
+encode_spec =
     tie.close
     (tie.spec
     invariant-loop

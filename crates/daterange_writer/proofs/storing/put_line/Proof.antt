@@ -1,5 +1,5 @@
 -- `daterange_writer::storing::put_line`: each piece stands behind the one before.
-use Rattle.daterange_writer.proofs.Stored.{section-stored}
+use Rattle.daterange_writer.proofs.Stored.{section_stored}
 use mathlib.Core.Path.{refl}
 use borrow.Author.Rules.{rules}
 use Rattle.daterange_writer.proofs.storing.put_line.Statement.{statement}
@@ -11,8 +11,8 @@ add-middle c = search rules
 add-from : tie.Need-overflow-add-from
 add-from c = search rules
 
-add-end : tie.Need-overflow-add-end
-add-end c = search rules
+add_end : tie.Need-overflow-add-end
+add_end c = search rules
 
 slice-aggregate-put-bytes : tie.Need-slice-aggregate-put-bytes
 slice-aggregate-put-bytes c = refl
@@ -45,15 +45,15 @@ same_length : tie.Need-same-length
 same_length c = search rules
 
 returns : tie.Need-returns
-returns c = section-stored _ _ _ _ _ _ _ _ _ _ _ c.before.before.before.before.before.before.before.before.before.before.before.before.before.before.before.before.before.before.before.before.before.before.before.before.before.before.before.before.before.before.before.requires c.before.before.before.before.before.before.before.before.before.before.before.before.before.before.before.before.before.before.before.before.before.before.before.put-bytes.ensures c.before.before.before.before.before.before.before.before.before.before.before.before.before.before.before.before.before.before.before.put-bytes2.ensures c.before.before.before.before.before.before.before.before.before.before.before.before.before.before.put-bytes3.ensures c.before.before.before.before.before.before.before.before.before.before.put-bytes4.ensures c.before.before.before.before.before.before.put-bytes5.ensures c.before.before.encode.ensures
+returns c = section_stored _ _ _ _ _ _ _ _ _ _ _ c.before.before.before.before.before.before.before.before.before.before.before.before.before.before.before.before.before.before.before.before.before.before.before.before.before.before.before.before.before.before.before.requires c.before.before.before.before.before.before.before.before.before.before.before.before.before.before.before.before.before.before.before.before.before.before.before.put-bytes.ensures c.before.before.before.before.before.before.before.before.before.before.before.before.before.before.before.before.before.before.before.put-bytes2.ensures c.before.before.before.before.before.before.before.before.before.before.before.before.before.before.put-bytes3.ensures c.before.before.before.before.before.before.before.before.before.before.put-bytes4.ensures c.before.before.before.before.before.before.put-bytes5.ensures c.before.before.encode.ensures
 
-pub put-line-spec : {M : Type 1} → statement M
-put-line-spec =
+pub put_line_spec : {M : Type 1} → statement M
+put_line_spec =
     tie.close
     (tie.spec
     add-middle
     add-from
-    add-end
+    add_end
     slice-aggregate-put-bytes
     put-bytes-requires
     put-bytes-requires-2

@@ -4,15 +4,15 @@ use mathlib.Core.Path.{refl}
 use native.Mathlib.Omega.{arith}
 use lib.ListN.{length}
 use Rattle.descriptor.specs.Segmentation.{mode, duration}
-use Rattle.descriptor.specs.Private.{modeRead, durationRead, upidRead}
-use Rattle.descriptor.proofs.Parts.{told, ends-inside}
-use Rattle.descriptor.proofs.Segmentations.{no-flags, no_mode, no-lasting, no-upid, front-is}
+use Rattle.descriptor.specs.Private.{mode_read, duration_read, upid_read}
+use Rattle.descriptor.proofs.Parts.{told, ends_inside}
+use Rattle.descriptor.proofs.Segmentations.{no_flags, no_mode, no_lasting, no_upid, front_is}
 use borrow.Author.Rules.{rules}
 use Rattle.descriptor.proofs.front.read_mode_and_upid.Statement.{statement}
 use Rattle.descriptor.proofs.front.read_mode_and_upid.Tie as tie
 
 returns : tie.Need-returns
-returns c = let a = c.before.before.args in (0, 0, no-flags a.s.now a.at c.if1.true)
+returns c = let a = c.before.before.args in (0, 0, no_flags a.s.now a.at c.if1.true)
 
 shared-slice-read-flags : tie.Need-shared-slice-read-flags
 shared-slice-read-flags c = search rules
@@ -29,12 +29,12 @@ enum-known-m c = search rules
 enum_told : tie.Need-enum-told
 enum_told c = search rules
 
-returns-2 : tie.Need-returns-2
-returns-2 c =
+returns_2 : tie.Need-returns-2
+returns_2 c =
     let read-mode = c.before.before in
     let k = read-mode.before in
     let a = k.before.before.before.args in
-    (_, _, no_mode a.s.now a.at k.before.if1.false (k.shared-slice-known2.given a.at).fits _ _ (told modeRead _ _ _ c.enum_told.given.1 read-mode.read-mode.ensures))
+    (_, _, no_mode a.s.now a.at k.before.if1.false (k.shared-slice-known2.given a.at).fits _ _ (told mode_read _ _ _ c.enum_told.given.1 read-mode.read-mode.ensures))
 
 read-duration-requires : tie.Need-read-duration-requires
 read-duration-requires c κs =
@@ -43,7 +43,7 @@ read-duration-requires c κs =
     let k = read-mode.before in
     let a = k.before.before.before.args in
     let there : a.at + 1 ≤ length a.s.now = omega (arith, k.before.if1.false) in
-    ends-inside (mode _) a.s.now (a.at + 1) _ _ there (told modeRead _ _ _ m.m.given.1 read-mode.read-mode.ensures).1
+    ends_inside (mode _) a.s.now (a.at + 1) _ _ there (told mode_read _ _ _ m.m.given.1 read-mode.read-mode.ensures).1
 
 enum-known-d : tie.Need-enum-known-d
 enum-known-d c = search rules
@@ -51,15 +51,15 @@ enum-known-d c = search rules
 enum-told-2 : tie.Need-enum-told-2
 enum-told-2 c = search rules
 
-returns-3 : tie.Need-returns-3
-returns-3 c =
+returns_3 : tie.Need-returns-3
+returns_3 c =
     let read-duration = c.before.before in
     let m = read-duration.before.before in
     let read-mode = m.before.before in
     let k = read-mode.before in
     let a = k.before.before.before.args in
-    let g = told modeRead _ _ _ m.m.given.1 read-mode.read-mode.ensures in
-    (_, _, no-lasting a.s.now a.at k.before.if1.false (k.shared-slice-known2.given a.at).fits _ _ g.1 _ _ (told durationRead _ _ _ c.enum-told2.given.1 read-duration.read-duration.ensures))
+    let g = told mode_read _ _ _ m.m.given.1 read-mode.read-mode.ensures in
+    (_, _, no_lasting a.s.now a.at k.before.if1.false (k.shared-slice-known2.given a.at).fits _ _ g.1 _ _ (told duration_read _ _ _ c.enum-told2.given.1 read-duration.read-duration.ensures))
 
 read-written-upid-requires : tie.Need-read-written-upid-requires
 read-written-upid-requires c κs =
@@ -70,8 +70,8 @@ read-written-upid-requires c κs =
     let k = read-mode.before in
     let a = k.before.before.before.args in
     let there : a.at + 1 ≤ length a.s.now = omega (arith, k.before.if1.false) in
-    let moded = ends-inside (mode _) a.s.now (a.at + 1) _ _ there (told modeRead _ _ _ m.m.given.1 read-mode.read-mode.ensures).1 in
-    ends-inside (duration _) a.s.now _ _ _ moded (told durationRead _ _ _ d.d.given.1 read-duration.read-duration.ensures)
+    let moded = ends_inside (mode _) a.s.now (a.at + 1) _ _ there (told mode_read _ _ _ m.m.given.1 read-mode.read-mode.ensures).1 in
+    ends_inside (duration _) a.s.now _ _ _ moded (told duration_read _ _ _ d.d.given.1 read-duration.read-duration.ensures)
 
 enum-known-u : tie.Need-enum-known-u
 enum-known-u c = search rules
@@ -79,8 +79,8 @@ enum-known-u c = search rules
 enum-told-3 : tie.Need-enum-told-3
 enum-told-3 c = search rules
 
-returns-4 : tie.Need-returns-4
-returns-4 c =
+returns_4 : tie.Need-returns-4
+returns_4 c =
     let read-upid = c.before.before in
     let d = read-upid.before.before in
     let read-duration = d.before.before in
@@ -88,12 +88,12 @@ returns-4 c =
     let read-mode = m.before.before in
     let k = read-mode.before in
     let a = k.before.before.before.args in
-    let g = told modeRead _ _ _ m.m.given.1 read-mode.read-mode.ensures in
-    let h = told durationRead _ _ _ d.d.given.1 read-duration.read-duration.ensures in
-    (_, _, no-upid a.s.now a.at k.before.if1.false (k.shared-slice-known2.given a.at).fits _ _ g.1 _ _ h _ _ (told upidRead _ _ _ c.enum-told3.given.1 read-upid.read-written-upid.ensures))
+    let g = told mode_read _ _ _ m.m.given.1 read-mode.read-mode.ensures in
+    let h = told duration_read _ _ _ d.d.given.1 read-duration.read-duration.ensures in
+    (_, _, no_upid a.s.now a.at k.before.if1.false (k.shared-slice-known2.given a.at).fits _ _ g.1 _ _ h _ _ (told upid_read _ _ _ c.enum-told3.given.1 read-upid.read-written-upid.ensures))
 
-returns-5 : tie.Need-returns-5
-returns-5 c =
+returns_5 : tie.Need-returns-5
+returns_5 c =
     let u = c.before.before in
     let read-upid = u.before.before in
     let d = read-upid.before.before in
@@ -102,13 +102,13 @@ returns-5 c =
     let read-mode = m.before.before in
     let k = read-mode.before in
     let a = k.before.before.before.args in
-    let g = told modeRead _ _ _ m.m.given.1 read-mode.read-mode.ensures in
-    let h = told durationRead _ _ _ d.d.given.1 read-duration.read-duration.ensures in
-    let w = told upidRead _ _ _ u.u.given.1 read-upid.read-written-upid.ensures in
-    (_, g.0, front-is a.s.now a.at k.before.if1.false (k.shared-slice-known2.given a.at).fits _ _ g.1 _ _ h _ refl _ _ w, refl, refl)
+    let g = told mode_read _ _ _ m.m.given.1 read-mode.read-mode.ensures in
+    let h = told duration_read _ _ _ d.d.given.1 read-duration.read-duration.ensures in
+    let w = told upid_read _ _ _ u.u.given.1 read-upid.read-written-upid.ensures in
+    (_, g.0, front_is a.s.now a.at k.before.if1.false (k.shared-slice-known2.given a.at).fits _ _ g.1 _ _ h _ refl _ _ w, refl, refl)
 
-pub read-mode-and-upid-spec : {M : Type 1} → statement M
-read-mode-and-upid-spec =
+pub read_mode_and_upid_spec : {M : Type 1} → statement M
+read_mode_and_upid_spec =
     tie.close
     (tie.spec
     returns
@@ -117,13 +117,13 @@ read-mode-and-upid-spec =
     read-mode-requires
     enum-known-m
     enum_told
-    returns-2
+    returns_2
     read-duration-requires
     enum-known-d
     enum-told-2
-    returns-3
+    returns_3
     read-written-upid-requires
     enum-known-u
     enum-told-3
-    returns-4
-    returns-5)
+    returns_4
+    returns_5)

@@ -45,23 +45,23 @@ blank-beside-requires-5 c κs = search rules
 returns : tie.Need-returns
 returns c = search rules
 
-returns-2 : tie.Need-returns-2
-returns-2 c = search rules
+returns_2 : tie.Need-returns-2
+returns_2 c = search rules
 
-returns-3 : tie.Need-returns-3
-returns-3 c = search rules
+returns_3 : tie.Need-returns-3
+returns_3 c = search rules
 
-returns-4 : tie.Need-returns-4
-returns-4 c = rw (c.before.before.before.before.read.given.1, c.before.enum-told4.given.1) c.read-beside.ensures
+returns_4 : tie.Need-returns-4
+returns_4 c = rw (c.before.before.before.before.read.given.1, c.before.enum-told4.given.1) c.read-beside.ensures
 
-returns-5 : tie.Need-returns-5
-returns-5 c = search rules
+returns_5 : tie.Need-returns-5
+returns_5 c = search rules
 
 returns-6 : tie.Need-returns-6
 returns-6 c = search rules
 
-pub beside-of-spec : {M : Type 1} → statement M
-beside-of-spec =
+pub beside_of_spec : {M : Type 1} → statement M
+beside_of_spec =
     tie.close
     (tie.spec
     enum_told
@@ -78,8 +78,8 @@ beside-of-spec =
     enum-told-6
     blank-beside-requires-5
     returns
-    returns-2
-    returns-3
-    returns-4
-    returns-5
+    returns_2
+    returns_3
+    returns_4
+    returns_5
     returns-6)

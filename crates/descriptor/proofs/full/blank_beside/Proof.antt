@@ -2,7 +2,7 @@
 use mathlib.Core.Path.{◌≡◌, ap}
 use mathlib.Core.List.{List}
 use Rattle.descriptor.specs.declared.segmentation.SegmentationComponent.{SegmentationComponent}
-use Rattle.descriptor.specs.Full.{blankBeside}
+use Rattle.descriptor.specs.Full.{blank_beside}
 use borrow.Author.Rules.{rules}
 use Rattle.descriptor.proofs.full.blank_beside.Statement.{statement}
 use Rattle.descriptor.proofs.full.blank_beside.Tie as tie
@@ -11,8 +11,8 @@ no-components-requires : tie.Need-no-components-requires
 no-components-requires c κs = search rules
 
 returns : tie.Need-returns
-unfolding blankBeside
+unfolding blank_beside
 returns c = rw c.no-components.ensures
 
-pub blank-beside-spec : {M : Type 1} → statement M
-blank-beside-spec = tie.close (tie.spec no-components-requires returns)
+pub blank_beside_spec : {M : Type 1} → statement M
+blank_beside_spec = tie.close (tie.spec no-components-requires returns)

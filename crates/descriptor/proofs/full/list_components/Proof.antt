@@ -5,16 +5,16 @@ use mathlib.Core.Path.{◌≡◌, ◌∙◌}
 use native.Mathlib.Omega.{arith}
 use lib.ListN.{length, length-set}
 use Rattle.descriptor.specs.Segmentation.{component}
-use Rattle.descriptor.specs.Private.{componentRead}
+use Rattle.descriptor.specs.Private.{component_read}
 use Rattle.descriptor.specs.Full.{filled}
-use Rattle.descriptor.proofs.Besides.{fillingFrom, fill_start, fill_end, fill-turn, fill-short}
-use Rattle.descriptor.proofs.Parts.{told, ends-inside}
+use Rattle.descriptor.proofs.Besides.{filling_from, fill_start, fill_end, fill_turn, fill_short}
+use Rattle.descriptor.proofs.Parts.{told, ends_inside}
 use borrow.Author.Rules.{rules}
 use Rattle.descriptor.proofs.full.list_components.Statement.{statement}
 use Rattle.descriptor.proofs.full.list_components.Tie as tie
 
 abbrev invariant-loop : tie.invariant-loop
-invariant-loop s from n out₀ next₀ i₀ out next i = (length out ≡ 255) × (next ≤ length s) × (i ≤ n) × (fillingFrom s out i (n - i) next ≡ fillingFrom s (filled []) 0 n next₀)
+invariant-loop s from n out₀ next₀ i₀ out next i = (length out ≡ 255) × (next ≤ length s) × (i ≤ n) × (filling_from s out i (n - i) next ≡ filling_from s (filled []) 0 n next₀)
 
 abbrev decreases-loop : tie.decreases-loop
 decreases-loop s from n out₀ next₀ i₀ out next i = n - i
@@ -46,10 +46,10 @@ returns c =
     let loop-test = read-component.before in
     let loop = loop-test.before in
     let a = loop.before.before.before.args in
-    c.no-components2.ensures ∙ fill-short a.s.now a.n a.from loop.loop.out loop.loop.i loop.loop.next loop.loop.invariant.3 loop-test.loop-test.true _ (told componentRead _ _ _ enum_told.enum_told.given.1 read-component.read-component.ensures)
+    c.no-components2.ensures ∙ fill_short a.s.now a.n a.from loop.loop.out loop.loop.i loop.loop.next loop.loop.invariant.3 loop-test.loop-test.true _ (told component_read _ _ _ enum_told.enum_told.given.1 read-component.read-component.ensures)
 
-size-requires : tie.Need-size-requires invariant-loop decreases-loop
-size-requires c κs = search rules
+size_requires : tie.Need-size-requires invariant-loop decreases-loop
+size_requires c κs = search rules
 
 mul-out : tie.Need-overflow-mul-out invariant-loop decreases-loop
 mul-out c = omega arith
@@ -69,22 +69,22 @@ loop-again c =
     let read = m.before.before in
     let loop = read.before.before in
     let a = loop.before.before.before.args in
-    let g = told componentRead _ _ _ m.m.given.1 read.read-component.ensures in (
+    let g = told component_read _ _ _ m.m.given.1 read.read-component.ensures in (
       simp length-set loop.loop.invariant.0,
-      ends-inside component a.s.now loop.loop.next _ _ loop.loop.invariant.1 g,
+      ends_inside component a.s.now loop.loop.next _ _ loop.loop.invariant.1 g,
       omega arith,
-      fill-turn a.s.now a.n a.from loop.loop.out loop.loop.i loop.loop.next loop.loop.invariant.3 read.before.loop-test.true _ c.size.ensures.0 _
+      fill_turn a.s.now a.n a.from loop.loop.out loop.loop.i loop.loop.next loop.loop.invariant.3 read.before.loop-test.true _ c.size.ensures.0 _
           g,
     )
 
-returns-2 : tie.Need-returns-2 invariant-loop decreases-loop
-returns-2 c =
+returns_2 : tie.Need-returns-2 invariant-loop decreases-loop
+returns_2 c =
     let loop = c.before in
     let a = loop.before.before.before.args in
     fill_end a.s.now a.n a.from loop.loop.out loop.loop.i loop.loop.next loop.loop.invariant.3 c.loop-test.false
 
-pub list-components-spec : {M : Type 1} → statement M
-list-components-spec =
+pub list_components_spec : {M : Type 1} → statement M
+list_components_spec =
     tie.close
     (tie.spec
     invariant-loop
@@ -96,10 +96,10 @@ list-components-spec =
     enum_told
     no-components-requires-2
     returns
-    size-requires
+    size_requires
     mul-out
     array-set-from-out
     add-i
     loop-less
     loop-again
-    returns-2)
+    returns_2)

@@ -8,5 +8,5 @@ returns : tie.Need-returns
 unfolding filled
 returns c = refl
 
-pub no-components-spec : {M : Type 1} → statement M
-no-components-spec = tie.close (tie.spec returns)
+pub no_components_spec : {M : Type 1} → statement M
+no_components_spec = tie.close (tie.spec returns)

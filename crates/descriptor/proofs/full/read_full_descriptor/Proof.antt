@@ -15,10 +15,10 @@ beside-of-requires c κs = search rules
 
 returns : tie.Need-returns
 returns c =
-    let identifier-of = c.before in
-    let read-descriptor = identifier-of.before in
+    let identifier_of_lem = c.before in
+    let read-descriptor = identifier_of_lem.before in
     let a = read-descriptor.before.before.args in
-    full_is a.tag a.identifier a.payload.now _ read-descriptor.read-descriptor.ensures _ identifier-of.identifier-of.ensures _ c.beside-of.ensures
+    full_is a.tag a.identifier a.payload.now _ read-descriptor.read-descriptor.ensures _ identifier_of_lem.identifier_of_lem.ensures _ c.beside-of.ensures
 
-pub read-full-descriptor-spec : {M : Type 1} → statement M
-read-full-descriptor-spec = tie.close (tie.spec read-descriptor-requires identifier-of-requires beside-of-requires returns)
+pub read_full_descriptor_spec : {M : Type 1} → statement M
+read_full_descriptor_spec = tie.close (tie.spec read-descriptor-requires identifier-of-requires beside-of-requires returns)

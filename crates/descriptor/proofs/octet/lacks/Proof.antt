@@ -8,5 +8,5 @@ returns : tie.Need-returns
 unfolding lacking
 returns c = refl
 
-pub lacks-spec : {M : Type 1} → statement M
-lacks-spec = tie.close (tie.spec returns)
+pub lacks_spec : {M : Type 1} → statement M
+lacks_spec = tie.close (tie.spec returns)

@@ -1,5 +1,5 @@
 -- `descriptor::octet::number32`: four bytes, each behind those before it.
-use Rattle.descriptor.proofs.Octets.{is-four}
+use Rattle.descriptor.proofs.Octets.{is_four}
 use borrow.Author.Rules.{rules}
 use Rattle.descriptor.proofs.octet.number32.Statement.{statement}
 use Rattle.descriptor.proofs.octet.number32.Tie as tie
@@ -62,10 +62,10 @@ returns c =
     let w1 = w2.before.before in
     let start = w1.before.before.before in
     let a = start.args in
-    is-four a.s.now (λ j. (c.before.shared-slice-known5.given j).fits) a.at _ _ _ _ w1.wide.ensures.0 w2.wide2.ensures.0 w3.wide3.ensures.0 c.wide4.ensures.0 start.requires
+    is_four a.s.now (λ j. (c.before.shared-slice-known5.given j).fits) a.at _ _ _ _ w1.wide.ensures.0 w2.wide2.ensures.0 w3.wide3.ensures.0 c.wide4.ensures.0 start.requires
 
-pub number32-spec : {M : Type 1} → statement M
-number32-spec =
+pub number32_spec : {M : Type 1} → statement M
+number32_spec =
     tie.close
     (tie.spec
     shared-slice-read-wide

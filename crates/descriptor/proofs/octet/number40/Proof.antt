@@ -1,5 +1,5 @@
 -- `descriptor::octet::number40`: one byte behind four.
-use Rattle.descriptor.proofs.Octets.{is-five}
+use Rattle.descriptor.proofs.Octets.{is_five}
 use borrow.Author.Rules.{rules}
 use Rattle.descriptor.proofs.octet.number40.Statement.{statement}
 use Rattle.descriptor.proofs.octet.number40.Tie as tie
@@ -28,10 +28,10 @@ returns c =
     let four = k.before in
     let start = four.before.before in
     let a = start.args in
-    is-five a.s.now (λ j. (k.shared-slice-known2.given j).fits) a.at _ _ four.number32.ensures.0 c.wide.ensures.0 start.requires
+    is_five a.s.now (λ j. (k.shared-slice-known2.given j).fits) a.at _ _ four.number32.ensures.0 c.wide.ensures.0 start.requires
 
-pub number40-spec : {M : Type 1} → statement M
-number40-spec =
+pub number40_spec : {M : Type 1} → statement M
+number40_spec =
     tie.close
     (tie.spec
     number32-requires

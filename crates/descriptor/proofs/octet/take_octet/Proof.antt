@@ -2,7 +2,7 @@
 use mathlib.Core.Path.{◌≡◌, refl, ap, sym, ◌∙◌}
 use Rattle.table.specs.Cursor.{place}
 use native.Mathlib.Omega.{arith}
-use Rattle.descriptor.proofs.Octets.{fits-octet, octet-is, octet-none}
+use Rattle.descriptor.proofs.Octets.{fits_octet, octet_is, octet_none}
 use borrow.Author.Rules.{rules}
 use Rattle.descriptor.proofs.octet.take_octet.Statement.{statement}
 use Rattle.descriptor.proofs.octet.take_octet.Tie as tie
@@ -19,7 +19,7 @@ cast-t9 c =
     let take = n.before.before in
     let start = take.before.before in
     let a = start.args in
-    omega (arith, fits-octet a.s.now (place a.c) a.w _ start.requires (sym n.n.given.1 ∙ take.take.ensures))
+    omega (arith, fits_octet a.s.now (place a.c) a.w _ start.requires (sym n.n.given.1 ∙ take.take.ensures))
 
 enum-known-e : tie.Need-enum-known-e
 enum-known-e c = search rules
@@ -30,14 +30,14 @@ returns c =
     let take = n.before.before in
     let start = take.before.before in
     let a = start.args in
-    octet-is a.s.now (place a.c) a.w _ start.requires (sym n.n.given.1 ∙ take.take.ensures)
+    octet_is a.s.now (place a.c) a.w _ start.requires (sym n.n.given.1 ∙ take.take.ensures)
 
-returns-2 : tie.Need-returns-2
-returns-2 c =
+returns_2 : tie.Need-returns-2
+returns_2 c =
     let e = c.before in
     let take = e.before.before in
-    octet-none _ _ (sym e.e.given.1 ∙ take.take.ensures)
+    octet_none _ _ (sym e.e.given.1 ∙ take.take.ensures)
 
-pub take-octet-spec : {M : Type 1} → statement M
-take-octet-spec =
-    tie.close (tie.spec take-requires enum-known-n cast-t9 enum-known-e returns returns-2)
+pub take_octet_spec : {M : Type 1} → statement M
+take_octet_spec =
+    tie.close (tie.spec take-requires enum-known-n cast-t9 enum-known-e returns returns_2)

@@ -1,6 +1,6 @@
 -- `descriptor::plain::read_dtmf` walks as its table does: each step of the cursor is one of the table.
 use mathlib.Core.Path.{◌≡◌, refl, ap, sym, ◌∙◌}
-use Rattle.descriptor.proofs.Plains.{no-preroll, no-count, no-reserved, no-chars, dtmf-is}
+use Rattle.descriptor.proofs.Plains.{no_preroll, no_count, no_reserved, no_chars, dtmf_is}
 use borrow.Author.Rules.{rules}
 use Rattle.descriptor.proofs.plain.read_dtmf.Statement.{statement}
 use Rattle.descriptor.proofs.plain.read_dtmf.Tie as tie
@@ -22,7 +22,7 @@ returns c =
     let e = c.before.before in
     let take-octet = e.before.before in
     let a = take-octet.before.before.args in
-    c.lacks.ensures ∙ no-preroll a.payload.now _ (sym e.e.given.1 ∙ take-octet.take-octet.ensures)
+    c.lacks.ensures ∙ no_preroll a.payload.now _ (sym e.e.given.1 ∙ take-octet.take-octet.ensures)
 
 take-octet-requires-2 : tie.Need-take-octet-requires-2
 take-octet-requires-2 c κs = search rules
@@ -36,14 +36,14 @@ enum-known-e-2 c = search rules
 lacks-requires-2 : tie.Need-lacks-requires-2
 lacks-requires-2 c κs = search rules
 
-returns-2 : tie.Need-returns-2
-returns-2 c =
+returns_2 : tie.Need-returns-2
+returns_2 c =
     let e2 = c.before.before in
     let take-octet2 = e2.before.before in
     let n = take-octet2.before.before.before in
     let take-octet = n.before.before in
     let a = take-octet.before.before.args in
-    c.lacks2.ensures ∙ no-count a.payload.now _ (sym n.n.given.1 ∙ take-octet.take-octet.ensures) _ (sym e2.e2.given.1 ∙ take-octet2.take-octet2.ensures)
+    c.lacks2.ensures ∙ no_count a.payload.now _ (sym n.n.given.1 ∙ take-octet.take-octet.ensures) _ (sym e2.e2.given.1 ∙ take-octet2.take-octet2.ensures)
 
 skip-requires : tie.Need-skip-requires
 skip-requires c κs = search rules
@@ -57,8 +57,8 @@ enum-known-e-3 c = search rules
 lacks-requires-3 : tie.Need-lacks-requires-3
 lacks-requires-3 c κs = search rules
 
-returns-3 : tie.Need-returns-3
-returns-3 c =
+returns_3 : tie.Need-returns-3
+returns_3 c =
     let e3 = c.before.before in
     let skip = e3.before.before in
     let n2 = skip.before.before.before in
@@ -66,10 +66,10 @@ returns-3 c =
     let n = take-octet2.before.before.before in
     let take-octet = n.before.before in
     let a = take-octet.before.before.args in
-    c.lacks3.ensures ∙ no-reserved a.payload.now _ (sym n.n.given.1 ∙ take-octet.take-octet.ensures) _ (sym n2.n2.given.1 ∙ take-octet2.take-octet2.ensures) _ (sym e3.e3.given.1 ∙ skip.skip.ensures)
+    c.lacks3.ensures ∙ no_reserved a.payload.now _ (sym n.n.given.1 ∙ take-octet.take-octet.ensures) _ (sym n2.n2.given.1 ∙ take-octet2.take-octet2.ensures) _ (sym e3.e3.given.1 ∙ skip.skip.ensures)
 
-size-requires : tie.Need-size-requires
-size-requires c κs = search rules
+size_requires : tie.Need-size-requires
+size_requires c κs = search rules
 
 pass-requires : tie.Need-pass-requires
 pass-requires c κs = search rules
@@ -83,8 +83,8 @@ enum-known-e-4 c = search rules
 lacks-requires-4 : tie.Need-lacks-requires-4
 lacks-requires-4 c κs = search rules
 
-returns-4 : tie.Need-returns-4
-returns-4 c =
+returns_4 : tie.Need-returns-4
+returns_4 c =
     let e4 = c.before.before in
     let pass = e4.before.before in
     let size = pass.before in
@@ -95,10 +95,10 @@ returns-4 c =
     let n = take-octet2.before.before.before in
     let take-octet = n.before.before in
     let a = take-octet.before.before.args in
-    c.lacks4.ensures ∙ no-chars a.payload.now _ (sym n.n.given.1 ∙ take-octet.take-octet.ensures) _ (sym n2.n2.given.1 ∙ take-octet2.take-octet2.ensures) _ (sym cursor.c.given.1 ∙ skip.skip.ensures) _ size.size.ensures.0 _ (sym e4.e4.given.1 ∙ pass.pass.ensures)
+    c.lacks4.ensures ∙ no_chars a.payload.now _ (sym n.n.given.1 ∙ take-octet.take-octet.ensures) _ (sym n2.n2.given.1 ∙ take-octet2.take-octet2.ensures) _ (sym cursor.c.given.1 ∙ skip.skip.ensures) _ size.size.ensures.0 _ (sym e4.e4.given.1 ∙ pass.pass.ensures)
 
-returns-5 : tie.Need-returns-5
-returns-5 c =
+returns_5 : tie.Need-returns-5
+returns_5 c =
     let r = c.before.before in
     let pass = r.before.before in
     let size = pass.before in
@@ -109,10 +109,10 @@ returns-5 c =
     let n = take-octet2.before.before.before in
     let take-octet = n.before.before in
     let a = take-octet.before.before.args in
-    dtmf-is a.payload.now _ (sym n.n.given.1 ∙ take-octet.take-octet.ensures) _ (sym n2.n2.given.1 ∙ take-octet2.take-octet2.ensures) _ (sym cursor.c.given.1 ∙ skip.skip.ensures) _ size.size.ensures.0 _ (sym r.r.given.1 ∙ pass.pass.ensures)
+    dtmf_is a.payload.now _ (sym n.n.given.1 ∙ take-octet.take-octet.ensures) _ (sym n2.n2.given.1 ∙ take-octet2.take-octet2.ensures) _ (sym cursor.c.given.1 ∙ skip.skip.ensures) _ size.size.ensures.0 _ (sym r.r.given.1 ∙ pass.pass.ensures)
 
-pub read-dtmf-spec : {M : Type 1} → statement M
-read-dtmf-spec =
+pub read_dtmf_spec : {M : Type 1} → statement M
+read_dtmf_spec =
     tie.close
     (tie.spec
     take-octet-requires
@@ -124,16 +124,16 @@ read-dtmf-spec =
     enum-known-n-2
     enum-known-e-2
     lacks-requires-2
-    returns-2
+    returns_2
     skip-requires
     enum-known-c
     enum-known-e-3
     lacks-requires-3
-    returns-3
-    size-requires
+    returns_3
+    size_requires
     pass-requires
     enum-known-r
     enum-known-e-4
     lacks-requires-4
-    returns-4
-    returns-5)
+    returns_4
+    returns_5)

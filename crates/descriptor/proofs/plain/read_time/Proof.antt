@@ -1,7 +1,7 @@
 -- `descriptor::plain::read_time`: twelve bytes are the three numbers.
 use native.Mathlib.Omega.{arith}
 use Rattle.table.proofs.Reading.{bits_are}
-use Rattle.descriptor.proofs.Plains.{time-short, time-is}
+use Rattle.descriptor.proofs.Plains.{time_short, time_is}
 use borrow.Author.Rules.{rules}
 use Rattle.descriptor.proofs.plain.read_time.Statement.{statement}
 use Rattle.descriptor.proofs.plain.read_time.Tie as tie
@@ -9,7 +9,7 @@ use Rattle.descriptor.proofs.plain.read_time.Tie as tie
 returns : tie.Need-returns
 returns c =
     let a = c.before.before.args in
-    time-short a.payload.now c.if1.true
+    time_short a.payload.now c.if1.true
 
 big-endian-requires : tie.Need-big-endian-requires
 big-endian-requires c κs = search rules
@@ -30,17 +30,17 @@ cast-t10 c =
     let a = c.before.before.before.before.before.args in
     omega (arith, bits_are a.payload.now 80 16 _ (omega arith) c.big-endian3.ensures)
 
-returns-2 : tie.Need-returns-2
-returns-2 c =
+returns_2 : tie.Need-returns-2
+returns_2 c =
     let big-endian2 = c.before in
     let big_endian = big-endian2.before in
     let if1 = big_endian.before in
     let a = if1.before.before.args in
-    time-is a.payload.now _ _ _ if1.if1.false (bits_are a.payload.now 0 48 _ (omega arith) big_endian.big_endian.ensures).0 (bits_are a.payload.now 48 32 _ (omega arith) big-endian2.big-endian2.ensures).0
+    time_is a.payload.now _ _ _ if1.if1.false (bits_are a.payload.now 0 48 _ (omega arith) big_endian.big_endian.ensures).0 (bits_are a.payload.now 48 32 _ (omega arith) big-endian2.big-endian2.ensures).0
     (bits_are a.payload.now 80 16 _ (omega arith) c.big-endian3.ensures).0
 
-pub read-time-spec : {M : Type 1} → statement M
-read-time-spec =
+pub read_time_spec : {M : Type 1} → statement M
+read_time_spec =
     tie.close
     (tie.spec
     returns
@@ -49,4 +49,4 @@ read-time-spec =
     cast-t8
     big-endian-requires-3
     cast-t10
-    returns-2)
+    returns_2)

@@ -2,7 +2,7 @@
 use mathlib.Core.Path.{◌≡◌, refl, ap, sym, ◌∙◌}
 use native.Mathlib.Omega.{arith}
 use Rattle.upid.specs.declared.UpidRead.{UpidRead}
-use Rattle.descriptor.proofs.Segmentations.{upid-fine, upid-refused, text-fits}
+use Rattle.descriptor.proofs.Segmentations.{upid_fine, upid_refused_lem, text_fits}
 use borrow.Author.Rules.{rules}
 use Rattle.descriptor.proofs.segmentation.checked_upid.Statement.{statement}
 use Rattle.descriptor.proofs.segmentation.checked_upid.Tie as tie
@@ -41,51 +41,51 @@ add-t13 c =
     let check-upid = refusal.before.before in
     let view = check-upid.before in
     let a = view.before.before.before.args in
-    omega (arith, text-fits a.payload.now a.written _ _ view.view.ensures check-upid.check-upid.ensures _ _ (refusal.refusal.given.1 ∙ ap UpidRead.Refused refusal2.refusal2.given.1))
+    omega (arith, text_fits a.payload.now a.written _ _ view.view.ensures check-upid.check-upid.ensures _ _ (refusal.refusal.given.1 ∙ ap UpidRead.Refused refusal2.refusal2.given.1))
 
 enum-told-4 : tie.Need-enum-told-4
 enum-told-4 c = search rules
 
 returns : tie.Need-returns
 returns c =
-    let upid-type = c.before.before in
-    let check-upid = upid-type.before.before in
+    let upid_type_number = c.before.before in
+    let check-upid = upid_type_number.before.before in
     let view = check-upid.before in
     let a = view.before.before.before.args in
-    upid-fine a.payload.now a.written _ _ view.view.ensures check-upid.check-upid.ensures _ _ upid-type.upid-type.given.1 c.reported.ensures
+    upid_fine a.payload.now a.written _ _ view.view.ensures check-upid.check-upid.ensures _ _ upid_type_number.upid_type_number.given.1 c.reported.ensures
 
-returns-2 : tie.Need-returns-2
-returns-2 c =
+returns_2 : tie.Need-returns-2
+returns_2 c =
     let refusal = c.before.before.before in
     let check-upid = refusal.before.before in
     let view = check-upid.before in
     let a = view.before.before.before.args in
-    upid-refused a.payload.now a.written _ _ view.view.ensures check-upid.check-upid.ensures _ _ (refusal.refusal.given.1 ∙ ap UpidRead.Refused c.enum_told.given.1) c.enum_told.given.1
+    upid_refused_lem a.payload.now a.written _ _ view.view.ensures check-upid.check-upid.ensures _ _ (refusal.refusal.given.1 ∙ ap UpidRead.Refused c.enum_told.given.1) c.enum_told.given.1
 
-returns-3 : tie.Need-returns-3
-returns-3 c =
+returns_3 : tie.Need-returns-3
+returns_3 c =
     let refusal = c.before.before.before in
     let check-upid = refusal.before.before in
     let view = check-upid.before in
     let a = view.before.before.before.args in
-    upid-refused a.payload.now a.written _ _ view.view.ensures check-upid.check-upid.ensures _ _ refusal.refusal.given.1 (rw c.enum-told2.given.1)
+    upid_refused_lem a.payload.now a.written _ _ view.view.ensures check-upid.check-upid.ensures _ _ refusal.refusal.given.1 (rw c.enum-told2.given.1)
 
-returns-4 : tie.Need-returns-4
-returns-4 c =
+returns_4 : tie.Need-returns-4
+returns_4 c =
     let refusal = c.before.before.before in
     let check-upid = refusal.before.before in
     let view = check-upid.before in
     let a = view.before.before.before.args in
-    upid-refused a.payload.now a.written _ _ view.view.ensures check-upid.check-upid.ensures _ _ (refusal.refusal.given.1 ∙ ap UpidRead.Refused c.enum-told3.given.1) c.enum-told3.given.1
+    upid_refused_lem a.payload.now a.written _ _ view.view.ensures check-upid.check-upid.ensures _ _ (refusal.refusal.given.1 ∙ ap UpidRead.Refused c.enum-told3.given.1) c.enum-told3.given.1
 
-returns-5 : tie.Need-returns-5
-returns-5 c =
+returns_5 : tie.Need-returns-5
+returns_5 c =
     let refusal2 = c.before.before.before in
     let refusal = refusal2.before.before.before in
     let check-upid = refusal.before.before in
     let view = check-upid.before in
     let a = view.before.before.before.args in
-    upid-refused a.payload.now a.written _ _ view.view.ensures check-upid.check-upid.ensures _ _ (refusal.refusal.given.1 ∙ ap UpidRead.Refused refusal2.refusal2.given.1) refl
+    upid_refused_lem a.payload.now a.written _ _ view.view.ensures check-upid.check-upid.ensures _ _ (refusal.refusal.given.1 ∙ ap UpidRead.Refused refusal2.refusal2.given.1) refl
 
 returns-6 : tie.Need-returns-6
 returns-6 c =
@@ -93,10 +93,10 @@ returns-6 c =
     let check-upid = refusal.before.before in
     let view = check-upid.before in
     let a = view.before.before.before.args in
-    upid-refused a.payload.now a.written _ _ view.view.ensures check-upid.check-upid.ensures _ _ refusal.refusal.given.1 (rw c.enum-told4.given.1)
+    upid_refused_lem a.payload.now a.written _ _ view.view.ensures check-upid.check-upid.ensures _ _ refusal.refusal.given.1 (rw c.enum-told4.given.1)
 
-pub checked-upid-spec : {M : Type 1} → statement M
-checked-upid-spec =
+pub checked_upid_spec : {M : Type 1} → statement M
+checked_upid_spec =
     tie.close
     (tie.spec
     view-requires
@@ -111,8 +111,8 @@ checked-upid-spec =
     add-t13
     enum-told-4
     returns
-    returns-2
-    returns-3
-    returns-4
-    returns-5
+    returns_2
+    returns_3
+    returns_4
+    returns_5
     returns-6)

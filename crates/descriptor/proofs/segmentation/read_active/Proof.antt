@@ -1,9 +1,9 @@
 -- `descriptor::segmentation::read_active`: front, UPID and back in turn.
 use Prim.Native.Nat.{◌*◌}
 use mathlib.Core.Path.{sym, ◌∙◌}
-use Rattle.descriptor.specs.Private.{frontRead, backRead}
+use Rattle.descriptor.specs.Private.{front_read, back_read}
 use Rattle.descriptor.proofs.Parts.{told}
-use Rattle.descriptor.proofs.Segmentations.{front-inside, no_front, bad-upid, no-back, active-is}
+use Rattle.descriptor.proofs.Segmentations.{front_inside, no_front, bad_upid, no_back, active_is}
 use borrow.Author.Rules.{rules}
 use Rattle.descriptor.proofs.segmentation.read_active.Statement.{statement}
 use Rattle.descriptor.proofs.segmentation.read_active.Tie as tie
@@ -25,7 +25,7 @@ returns c =
     let e = c.before.before in
     let read-front = e.before.before in
     let a = read-front.before.before.args in
-    c.lacks.ensures ∙ no_front a.payload.now a.event (a.at * 8) _ (told frontRead _ _ _ e.e.given.1 read-front.read-front.ensures)
+    c.lacks.ensures ∙ no_front a.payload.now a.event (a.at * 8) _ (told front_read _ _ _ e.e.given.1 read-front.read-front.ensures)
 
 checked-upid-requires : tie.Need-checked-upid-requires
 checked-upid-requires c κs = search rules
@@ -36,15 +36,15 @@ enum-known-u c = search rules
 enum-known-r : tie.Need-enum-known-r
 enum-known-r c = search rules
 
-returns-2 : tie.Need-returns-2
-returns-2 c =
+returns_2 : tie.Need-returns-2
+returns_2 c =
     let r = c.before in
     let checked-upid = r.before.before in
     let f = checked-upid.before.before.before.before in
     let read-front = f.before.before in
     let a = read-front.before.before.args in
-    let g = told frontRead _ _ _ f.f.given.1 read-front.read-front.ensures in
-    bad-upid a.payload.now a.event (a.at * 8) _ _ _ g.1 _ (sym r.r.given.1 ∙ checked-upid.checked-upid.ensures)
+    let g = told front_read _ _ _ f.f.given.1 read-front.read-front.ensures in
+    bad_upid a.payload.now a.event (a.at * 8) _ _ _ g.1 _ (sym r.r.given.1 ∙ checked-upid.checked-upid.ensures)
 
 read-back-requires : tie.Need-read-back-requires
 read-back-requires c κs =
@@ -52,8 +52,8 @@ read-back-requires c κs =
     let f = checked-upid.before.before.before.before in
     let read-front = f.before.before in
     let a = read-front.before.before.args in
-    let g = told frontRead _ _ _ f.f.given.1 read-front.read-front.ensures in
-    front-inside a.payload.now a.at _ _ g.1
+    let g = told front_read _ _ _ f.f.given.1 read-front.read-front.ensures in
+    front_inside a.payload.now a.at _ _ g.1
 
 enum-known-b : tie.Need-enum-known-b
 enum-known-b c = search rules
@@ -64,8 +64,8 @@ enum-known-e-2 c = search rules
 lacks-requires-2 : tie.Need-lacks-requires-2
 lacks-requires-2 c κs = search rules
 
-returns-3 : tie.Need-returns-3
-returns-3 c =
+returns_3 : tie.Need-returns-3
+returns_3 c =
     let e2 = c.before.before in
     let read_back = e2.before.before in
     let u = read_back.before.before in
@@ -73,14 +73,14 @@ returns-3 c =
     let f = checked-upid.before.before.before.before in
     let read-front = f.before.before in
     let a = read-front.before.before.args in
-    let g = told frontRead _ _ _ f.f.given.1 read-front.read-front.ensures in
-    c.lacks2.ensures ∙ no-back a.payload.now a.event (a.at * 8) _ _ _ g.1 _ (sym u.u.given.1 ∙ checked-upid.checked-upid.ensures) _ (told backRead _ _ _ e2.e2.given.1 read_back.read_back.ensures)
+    let g = told front_read _ _ _ f.f.given.1 read-front.read-front.ensures in
+    c.lacks2.ensures ∙ no_back a.payload.now a.event (a.at * 8) _ _ _ g.1 _ (sym u.u.given.1 ∙ checked-upid.checked-upid.ensures) _ (told back_read _ _ _ e2.e2.given.1 read_back.read_back.ensures)
 
 active-with-requires : tie.Need-active-with-requires
 active-with-requires c κs = search rules
 
-returns-4 : tie.Need-returns-4
-returns-4 c =
+returns_4 : tie.Need-returns-4
+returns_4 c =
     let b = c.before.before in
     let read_back = b.before.before in
     let u = read_back.before.before in
@@ -88,11 +88,11 @@ returns-4 c =
     let f = checked-upid.before.before.before.before in
     let read-front = f.before.before in
     let a = read-front.before.before.args in
-    let g = told frontRead _ _ _ f.f.given.1 read-front.read-front.ensures in
-    c.active-with.ensures ∙ active-is a.payload.now a.event (a.at * 8) _ _ _ g.1 _ (sym u.u.given.1 ∙ checked-upid.checked-upid.ensures) _ _ (told backRead _ _ _ b.b.given.1 read_back.read_back.ensures).1
+    let g = told front_read _ _ _ f.f.given.1 read-front.read-front.ensures in
+    c.active-with.ensures ∙ active_is a.payload.now a.event (a.at * 8) _ _ _ g.1 _ (sym u.u.given.1 ∙ checked-upid.checked-upid.ensures) _ _ (told back_read _ _ _ b.b.given.1 read_back.read_back.ensures).1
 
-pub read-active-spec : {M : Type 1} → statement M
-read-active-spec =
+pub read_active_spec : {M : Type 1} → statement M
+read_active_spec =
     tie.close
     (tie.spec
     read-front-requires
@@ -103,11 +103,11 @@ read-active-spec =
     checked-upid-requires
     enum-known-u
     enum-known-r
-    returns-2
+    returns_2
     read-back-requires
     enum-known-b
     enum-known-e-2
     lacks-requires-2
-    returns-3
+    returns_3
     active-with-requires
-    returns-4)
+    returns_4)

@@ -1,17 +1,17 @@
 -- `descriptor::segmentation::read_head`: four bytes, and the first bit of the next.
-use Rattle.descriptor.proofs.Segmentations.{no-event, no-cancel, head-is}
+use Rattle.descriptor.proofs.Segmentations.{no_event, no_cancel, head_is}
 use borrow.Author.Rules.{rules}
 use Rattle.descriptor.proofs.segmentation.read_head.Statement.{statement}
 use Rattle.descriptor.proofs.segmentation.read_head.Tie as tie
 
 returns : tie.Need-returns
-returns c = let a = c.before.before.args in no-event a.payload.now c.if1.true
+returns c = let a = c.before.before.args in no_event a.payload.now c.if1.true
 
-returns-2 : tie.Need-returns-2
-returns-2 c =
+returns_2 : tie.Need-returns-2
+returns_2 c =
     let if1 = c.before in
     let a = if1.before.before.args in
-    no-cancel a.payload.now if1.if1.false c.if2.true
+    no_cancel a.payload.now if1.if1.false c.if2.true
 
 number32-requires : tie.Need-number32-requires
 number32-requires c κs = search rules
@@ -22,13 +22,13 @@ cast-t7 c = search rules
 shared-slice-read-t9 : tie.Need-shared-slice-read-t9
 shared-slice-read-t9 c = search rules
 
-returns-3 : tie.Need-returns-3
-returns-3 c =
+returns_3 : tie.Need-returns-3
+returns_3 c =
     let four = c.before in
     let if2 = four.before in
     let a = if2.before.before.before.args in
-    head-is a.payload.now if2.if2.false (c.shared-slice-known2.given 4).fits _ four.number32.ensures.0
+    head_is a.payload.now if2.if2.false (c.shared-slice-known2.given 4).fits _ four.number32.ensures.0
 
-pub read-head-spec : {M : Type 1} → statement M
-read-head-spec =
-    tie.close (tie.spec returns returns-2 number32-requires cast-t7 shared-slice-read-t9 returns-3)
+pub read_head_spec : {M : Type 1} → statement M
+read_head_spec =
+    tie.close (tie.spec returns returns_2 number32-requires cast-t7 shared-slice-read-t9 returns_3)

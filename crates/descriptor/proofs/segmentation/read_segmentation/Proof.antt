@@ -1,8 +1,8 @@
 -- `descriptor::segmentation::read_segmentation`: the head, and what follows it.
 use mathlib.Core.Path.{◌∙◌}
-use Rattle.descriptor.specs.Private.{headRead}
+use Rattle.descriptor.specs.Private.{head_read}
 use Rattle.descriptor.proofs.Parts.{told}
-use Rattle.descriptor.proofs.Segmentations.{no-head, cancel-is, detail-from}
+use Rattle.descriptor.proofs.Segmentations.{no_head, cancel_is, detail_from_lem}
 use borrow.Author.Rules.{rules}
 use Rattle.descriptor.proofs.segmentation.read_segmentation.Statement.{statement}
 use Rattle.descriptor.proofs.segmentation.read_segmentation.Tie as tie
@@ -24,28 +24,28 @@ returns c =
     let e = c.before.before in
     let read_head = e.before.before in
     let a = read_head.before.before.args in
-    c.lacks.ensures ∙ no-head a.payload.now _ (told headRead _ _ _ e.e.given.1 read_head.read_head.ensures)
+    c.lacks.ensures ∙ no_head a.payload.now _ (told head_read _ _ _ e.e.given.1 read_head.read_head.ensures)
 
-returns-2 : tie.Need-returns-2
-returns-2 c =
+returns_2 : tie.Need-returns-2
+returns_2 c =
     let h = c.before.before in
     let read_head = h.before.before in
     let a = read_head.before.before.args in
-    cancel-is a.payload.now _ (told headRead _ _ _ h.h.given.1 read_head.read_head.ensures) c.if1.true
+    cancel_is a.payload.now _ (told head_read _ _ _ h.h.given.1 read_head.read_head.ensures) c.if1.true
 
 read-active-requires : tie.Need-read-active-requires
 read-active-requires c κs = search rules
 
-returns-3 : tie.Need-returns-3
-returns-3 c =
+returns_3 : tie.Need-returns-3
+returns_3 c =
     let if1 = c.before in
     let h = if1.before.before in
     let read_head = h.before.before in
     let a = read_head.before.before.args in
-    c.read-active.ensures ∙ detail-from a.payload.now _ (told headRead _ _ _ h.h.given.1 read_head.read_head.ensures) if1.if1.false
+    c.read-active.ensures ∙ detail_from_lem a.payload.now _ (told head_read _ _ _ h.h.given.1 read_head.read_head.ensures) if1.if1.false
 
-pub read-segmentation-spec : {M : Type 1} → statement M
-read-segmentation-spec =
+pub read_segmentation_spec : {M : Type 1} → statement M
+read_segmentation_spec =
     tie.close
     (tie.spec
     read-head-requires
@@ -53,6 +53,6 @@ read-segmentation-spec =
     enum-known-e
     lacks-requires
     returns
-    returns-2
+    returns_2
     read-active-requires
-    returns-3)
+    returns_3)

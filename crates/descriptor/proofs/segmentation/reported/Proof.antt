@@ -7,10 +7,10 @@ use Rattle.descriptor.proofs.segmentation.reported.Tie as tie
 returns : tie.Need-returns
 returns c = ⊎_elim (λ e. rw e) (λ e. rw e) c.match.keys1
 
-returns-2 : tie.Need-returns-2
-returns-2 c =
+returns_2 : tie.Need-returns-2
+returns_2 c =
     let a = c.before.args in
-    rw (ne_eqb a.upid-type 0 (λ e. c.match.rest.1 (inl e)), ne_eqb a.upid-type 10 (λ e. c.match.rest.1 (inr e)))
+    rw (ne_eqb a.upid_type_number 0 (λ e. c.match.rest.1 (inl e)), ne_eqb a.upid_type_number 10 (λ e. c.match.rest.1 (inr e)))
 
-pub reported-spec : {M : Type 1} → statement M
-reported-spec = tie.close (tie.spec returns returns-2)
+pub reported_spec : {M : Type 1} → statement M
+reported_spec = tie.close (tie.spec returns returns_2)

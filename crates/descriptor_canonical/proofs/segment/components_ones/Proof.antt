@@ -2,19 +2,19 @@
 use Prim.Native.Nat.{◌+◌, ◌-◌, ◌*◌, ◌≤◌}
 use mathlib.Core.Path.{◌≡◌}
 use native.Mathlib.Omega.{arith}
-use Rattle.descriptor_canonical.specs.Private.{componentsOnes}
-use Rattle.descriptor_canonical.proofs.Tests.{ones-start, ones-turn, ones-stop, ones-end}
+use Rattle.descriptor_canonical.specs.Private.{components_ones}
+use Rattle.descriptor_canonical.proofs.Tests.{ones_start, ones_turn, ones_stop, ones_end}
 use Rattle.descriptor_canonical.proofs.segment.components_ones.Statement.{statement}
 use Rattle.descriptor_canonical.proofs.segment.components_ones.Tie as tie
 
 abbrev invariant-loop : tie.invariant-loop
-invariant-loop s n i₀ i = (i ≤ n) × (componentsOnes (n - i) s (7 + i * 6) ≡ componentsOnes n s 7)
+invariant-loop s n i₀ i = (i ≤ n) × (components_ones (n - i) s (7 + i * 6) ≡ components_ones n s 7)
 
 abbrev decreases-loop : tie.decreases-loop
 decreases-loop s n i₀ i = n - i
 
 loop-holds : tie.Need-loop-init invariant-loop decreases-loop
-loop-holds c = (omega arith, ones-start c.args.s.now c.args.n)
+loop-holds c = (omega arith, ones_start c.args.s.now c.args.n)
 
 mul-if1 : tie.Need-overflow-mul-if1 invariant-loop decreases-loop
 mul-if1 c = omega arith
@@ -31,7 +31,7 @@ shared-slice-read-if1 c = omega arith
 returns : tie.Need-returns invariant-loop decreases-loop
 returns c =
     let l = c.before.before.before in
-    ones-stop l.before.args.s.now l.before.args.n l.loop.i l.loop.invariant.1 (omega arith) c.if1.true
+    ones_stop l.before.args.s.now l.before.args.n l.loop.i l.loop.invariant.1 (omega arith) c.if1.true
 
 add-i : tie.Need-overflow-add-i invariant-loop decreases-loop
 add-i c = omega arith
@@ -42,15 +42,15 @@ loop-less c = omega arith
 loop-again : tie.Need-loop-preserved invariant-loop decreases-loop
 loop-again c =
     let l = c.before.before.before in
-    (omega arith, ones-turn l.before.args.s.now l.before.args.n l.loop.i l.loop.invariant.1 (omega arith) c.if1.false)
+    (omega arith, ones_turn l.before.args.s.now l.before.args.n l.loop.i l.loop.invariant.1 (omega arith) c.if1.false)
 
-returns-2 : tie.Need-returns-2 invariant-loop decreases-loop
-returns-2 c =
+returns_2 : tie.Need-returns-2 invariant-loop decreases-loop
+returns_2 c =
     let l = c.before in
-    ones-end l.before.args.s.now l.before.args.n l.loop.i l.loop.invariant.1 (omega arith)
+    ones_end l.before.args.s.now l.before.args.n l.loop.i l.loop.invariant.1 (omega arith)
 
-pub components-ones-spec : {M : Type 1} → statement M
-components-ones-spec =
+pub components_ones_spec : {M : Type 1} → statement M
+components_ones_spec =
     tie.close
     (tie.spec
     invariant-loop
@@ -64,4 +64,4 @@ components-ones-spec =
     add-i
     loop-less
     loop-again
-    returns-2)
+    returns_2)

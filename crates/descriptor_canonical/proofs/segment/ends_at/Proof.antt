@@ -15,9 +15,9 @@ returns c = rw (eq-eqb _ _ c.if1.true)
 add-result : tie.Need-overflow-add-result
 add-result c = search rules
 
-returns-2 : tie.Need-returns-2
+returns_2 : tie.Need-returns-2
 unfolding ends_at
-returns-2 c = rw (ne_eqb _ _ c.if1.false)
+returns_2 c = rw (ne_eqb _ _ c.if1.false)
 
-pub ends-at-spec : {M : Type 1} → statement M
-ends-at-spec = tie.close (tie.spec add-if1 returns add-result returns-2)
+pub ends_at_spec : {M : Type 1} → statement M
+ends_at_spec = tie.close (tie.spec add-if1 returns add-result returns_2)

@@ -17,8 +17,8 @@ enum-told-2 c = search rules
 returns : tie.Need-returns
 returns c = sym (ap accepts c.enum_told.given.1) ∙ ap accepts c.before.before.check-upid.ensures
 
-returns-2 : tie.Need-returns-2
-returns-2 c = sym (ap accepts c.enum-told2.given.1) ∙ ap accepts c.before.before.check-upid.ensures
+returns_2 : tie.Need-returns-2
+returns_2 c = sym (ap accepts c.enum-told2.given.1) ∙ ap accepts c.before.before.check-upid.ensures
 
-pub is-accepted-spec : {M : Type 1} → statement M
-is-accepted-spec = tie.close (tie.spec check-upid-requires enum_told enum-told-2 returns returns-2)
+pub is_accepted_spec : {M : Type 1} → statement M
+is_accepted_spec = tie.close (tie.spec check-upid-requires enum_told enum-told-2 returns returns_2)

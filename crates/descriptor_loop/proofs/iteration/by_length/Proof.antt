@@ -3,7 +3,7 @@ use Prim.Native.Nat.{◌-◌, ◌≤◌, ◌<◌}
 use mathlib.Core.Path.{sym, ◌∙◌}
 use native.Mathlib.Omega.{arith}
 use lib.ListN.{length}
-use Rattle.descriptor_loop.proofs.Steps.{step-over, step-full, step_small, step-complete}
+use Rattle.descriptor_loop.proofs.Steps.{step_over, step_full, step_small, step_complete}
 use borrow.Author.Rules.{rules}
 use Rattle.descriptor_loop.proofs.iteration.by_length.Statement.{statement}
 use Rattle.descriptor_loop.proofs.iteration.by_length.Tie as tie
@@ -18,17 +18,17 @@ inside w = omega (arith, (start w).requires.0)
 six : (w : tie.After-size) → let a = (start w).args in 6 ≤ length a.descriptors.now - a.offset
 six w = omega (arith, (start w).requires.0)
 
-sub-left : tie.Need-overflow-sub-left
-sub-left c = search rules
+sub_left : tie.Need-overflow-sub-left
+sub_left c = search rules
 
-add-size : tie.Need-overflow-add-size
-add-size c = search rules
+add_size : tie.Need-overflow-add-size
+add_size c = search rules
 
-shared-slice-read-size : tie.Need-shared-slice-read-size
-shared-slice-read-size c = search rules
+shared_slice_read_size : tie.Need-shared-slice-read-size
+shared_slice_read_size c = search rules
 
-size-requires : tie.Need-size-requires
-size-requires c κs = search rules
+size_requires : tie.Need-size-requires
+size_requires c κs = search rules
 
 add-if1 : tie.Need-overflow-add-if1
 add-if1 c = search rules
@@ -45,15 +45,15 @@ plain-requires c κs = search rules
 returns : tie.Need-returns
 returns c =
     let w = c.before.before.before in
-    c.plain.ensures ∙ rw c.before.lacks.ensures (sym (step-over _ _ (start w).requires.1 (inside w) _ w.size.ensures.0 (six w) c.before.before.if1.true))
+    c.plain.ensures ∙ rw c.before.lacks.ensures (sym (step_over _ _ (start w).requires.1 (inside w) _ w.size.ensures.0 (six w) c.before.before.if1.true))
 
 plain-requires-2 : tie.Need-plain-requires-2
 plain-requires-2 c κs = search rules
 
-returns-2 : tie.Need-returns-2
-returns-2 c =
+returns_2 : tie.Need-returns-2
+returns_2 c =
     let w = c.before.before.before in
-    c.plain2.ensures ∙ sym (step-full _ _ (start w).requires.1 (inside w) _ w.size.ensures.0 (six w) c.before.before.if1.false c.before.if2.true)
+    c.plain2.ensures ∙ sym (step_full _ _ (start w).requires.1 (inside w) _ w.size.ensures.0 (six w) c.before.before.if1.false c.before.if2.true)
 
 add-lacks-2 : tie.Need-overflow-add-lacks-2
 add-lacks-2 c = search rules
@@ -70,39 +70,39 @@ add-plain-2 c = search rules
 plain-requires-3 : tie.Need-plain-requires-3
 plain-requires-3 c κs = search rules
 
-returns-3 : tie.Need-returns-3
-returns-3 c =
+returns_3 : tie.Need-returns-3
+returns_3 c =
     let w = c.before.before.before.before.before in
     c.plain3.ensures ∙ rw c.before.lacks2.ensures (sym (step_small _ _ (start w).requires.1 (inside w) _ w.size.ensures.0 (six w) c.before.before.before.before.if1.false c.before.before.before.if2.false c.before.before.if3.true))
 
 read-complete-requires : tie.Need-read-complete-requires
 read-complete-requires c κs = search rules
 
-returns-4 : tie.Need-returns-4
-returns-4 c =
+returns_4 : tie.Need-returns-4
+returns_4 c =
     let w = c.before.before.before.before in
-    c.read-complete.ensures ∙ sym (step-complete _ _ (start w).requires.1 (inside w) _ w.size.ensures.0 (six w) c.before.before.before.if1.false c.before.before.if2.false c.before.if3.false)
+    c.read-complete.ensures ∙ sym (step_complete _ _ (start w).requires.1 (inside w) _ w.size.ensures.0 (six w) c.before.before.before.if1.false c.before.before.if2.false c.before.if3.false)
 
-pub by-length-spec : {M : Type 1} → statement M
-by-length-spec =
+pub by_length_spec : {M : Type 1} → statement M
+by_length_spec =
     tie.close
     (tie.spec
-    sub-left
-    add-size
-    shared-slice-read-size
-    size-requires
+    sub_left
+    add_size
+    shared_slice_read_size
+    size_requires
     add-if1
     add-lacks
     lacks-requires
     plain-requires
     returns
     plain-requires-2
-    returns-2
+    returns_2
     add-lacks-2
     lacks-requires-2
     add-plain
     add-plain-2
     plain-requires-3
-    returns-3
+    returns_3
     read-complete-requires
-    returns-4)
+    returns_4)

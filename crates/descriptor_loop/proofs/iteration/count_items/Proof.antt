@@ -5,14 +5,14 @@ use native.Mathlib.Omega.{arith}
 use lib.ListN.{length}
 use borrow.Author.Rules.{rules}
 use borrow.Author.Tests.{lt-ltb}
-use Rattle.descriptor_loop.specs.Items.{itemsFrom, items_of, count_of}
-use Rattle.descriptor_loop.proofs.Lists.{counted_none, counted-one, counted-all, step-forward}
+use Rattle.descriptor_loop.specs.Items.{items_from, items_of, count_of}
+use Rattle.descriptor_loop.proofs.Lists.{counted_none, counted_one, counted_all, step_forward}
 use Rattle.descriptor_loop.proofs.iteration.count_items.Statement.{statement}
 use Rattle.descriptor_loop.proofs.iteration.count_items.Tie as tie
 
 abbrev invariant-loop : tie.invariant-loop
 invariant-loop bytes count₀ offset₀ count offset =
-    (length bytes ≤ 4076) × (count ≤ offset) × (offset ≤ length bytes) × (count + length (itemsFrom (length bytes - offset) bytes offset) ≡ length (items_of bytes))
+    (length bytes ≤ 4076) × (count ≤ offset) × (offset ≤ length bytes) × (count + length (items_from (length bytes - offset) bytes offset) ≡ length (items_of bytes))
 
 abbrev decreases-loop : tie.decreases-loop
 decreases-loop bytes count₀ offset₀ count offset = length bytes - offset
@@ -31,19 +31,19 @@ add-count : tie.Need-overflow-add-count invariant-loop decreases-loop
 add-count c = omega arith
 
 loop-less : tie.Need-loop-smaller invariant-loop decreases-loop
-loop-less c = let l = c.before.before in omega (arith, step-forward _ _ _ l.loop.invariant.0 c.before.loop-test.true c.step.ensures)
+loop-less c = let l = c.before.before in omega (arith, step_forward _ _ _ l.loop.invariant.0 c.before.loop-test.true c.step.ensures)
 
 loop-again : tie.Need-loop-preserved invariant-loop decreases-loop
 loop-again c =
     let l = c.before.before in
-    let f = step-forward _ _ _ l.loop.invariant.0 c.before.loop-test.true c.step.ensures in
-    (l.loop.invariant.0, omega (arith, f.0), f.1, counted-one _ _ _ _ l.loop.invariant.0 c.before.loop-test.true c.step.ensures l.loop.invariant.3)
+    let f = step_forward _ _ _ l.loop.invariant.0 c.before.loop-test.true c.step.ensures in
+    (l.loop.invariant.0, omega (arith, f.0), f.1, counted_one _ _ _ _ l.loop.invariant.0 c.before.loop-test.true c.step.ensures l.loop.invariant.3)
 
-returns-2 : tie.Need-returns-2 invariant-loop decreases-loop
-returns-2 c = let l = c.before.loop.invariant in counted-all _ _ _ l.0 c.loop-test.false l.3
+returns_2 : tie.Need-returns-2 invariant-loop decreases-loop
+returns_2 c = let l = c.before.loop.invariant in counted_all _ _ _ l.0 c.loop-test.false l.3
 
-pub count-items-spec : {M : Type 1} → statement M
-count-items-spec =
+pub count_items_spec : {M : Type 1} → statement M
+count_items_spec =
     tie.close
     (tie.spec
     invariant-loop
@@ -54,4 +54,4 @@ count-items-spec =
     add-count
     loop-less
     loop-again
-    returns-2)
+    returns_2)

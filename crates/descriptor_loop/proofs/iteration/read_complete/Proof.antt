@@ -2,7 +2,7 @@
 use Prim.Native.Nat.{◌+◌, ◌-◌}
 use mathlib.Core.Path.{◌∙◌}
 use native.Mathlib.Omega.{arith}
-use Rattle.descriptor_loop.proofs.Completes.{is-movable, refused-movable, complete-refused, avail-is, dtmf-is, segmentation-is, time-is, reserved-is}
+use Rattle.descriptor_loop.proofs.Completes.{is_movable, refused_movable, complete_refused, avail_is, dtmf_is, segmentation_is_lem, time_is, reserved_is}
 use borrow.Author.Rules.{rules}
 use Rattle.descriptor_loop.proofs.iteration.read_complete.Statement.{statement}
 use Rattle.descriptor_loop.proofs.iteration.read_complete.Tie as tie
@@ -66,7 +66,7 @@ move-refusal-requires c κs =
     let r = c.before in
     let rd = r.before.before in
     let a = (start rd).args in
-    refused-movable a.descriptors.now (a.offset + 6) (a.offset + (a.len + 2) - (a.offset + 6)) _ _ _ _ rd.read-descriptor.ensures r.r.given.1 (omega arith) (omega arith)
+    refused_movable a.descriptors.now (a.offset + 6) (a.offset + (a.len + 2) - (a.offset + 6)) _ _ _ _ rd.read-descriptor.ensures r.r.given.1 (omega arith) (omega arith)
 
 plain-requires : tie.Need-plain-requires
 plain-requires c κs = search rules
@@ -76,7 +76,7 @@ returns c =
     let r = c.before.before.before in
     let rd = r.before.before in
     let a = (start rd).args in
-    c.plain.ensures ∙ complete-refused a.descriptors.now a.offset a.len (omega arith) (omega arith) _ rd.read-descriptor.ensures _ _ r.r.given.1 c.before.move-refusal.ensures
+    c.plain.ensures ∙ complete_refused a.descriptors.now a.offset a.len (omega arith) (omega arith) _ rd.read-descriptor.ensures _ _ r.r.given.1 c.before.move-refusal.ensures
 
 enum-known-d : tie.Need-enum-known-d
 enum-known-d c = search rules
@@ -87,12 +87,12 @@ enum_told c = search rules
 plain-requires-2 : tie.Need-plain-requires-2
 plain-requires-2 c κs = search rules
 
-returns-2 : tie.Need-returns-2
-returns-2 c =
+returns_2 : tie.Need-returns-2
+returns_2 c =
     let d = c.before.before.before.before in
     let rd = d.before.before in
     let a = (start rd).args in
-    c.plain2.ensures ∙ avail-is a.descriptors.now a.offset a.len (omega arith) (omega arith) _ rd.read-descriptor.ensures _ _ d.d.given.1 c.before.enum_told.given.1
+    c.plain2.ensures ∙ avail_is a.descriptors.now a.offset a.len (omega arith) (omega arith) _ rd.read-descriptor.ensures _ _ d.d.given.1 c.before.enum_told.given.1
 
 enum-told-2 : tie.Need-enum-told-2
 enum-told-2 c = search rules
@@ -102,17 +102,17 @@ move-descriptor-requires c κs =
     let d = c.before.before.before in
     let rd = d.before.before in
     let a = (start rd).args in
-    is-movable a.descriptors.now (a.offset + 6) (a.offset + (a.len + 2) - (a.offset + 6)) _ _ _ _ rd.read-descriptor.ensures d.d.given.1 (omega arith) (omega arith)
+    is_movable a.descriptors.now (a.offset + 6) (a.offset + (a.len + 2) - (a.offset + 6)) _ _ _ _ rd.read-descriptor.ensures d.d.given.1 (omega arith) (omega arith)
 
 plain-requires-3 : tie.Need-plain-requires-3
 plain-requires-3 c κs = search rules
 
-returns-3 : tie.Need-returns-3
-returns-3 c =
+returns_3 : tie.Need-returns-3
+returns_3 c =
     let d = c.before.before.before.before.before in
     let rd = d.before.before in
     let a = (start rd).args in
-    c.plain3.ensures ∙ dtmf-is a.descriptors.now a.offset a.len (omega arith) (omega arith) _ rd.read-descriptor.ensures _ _ _ d.d.given.1 c.before.before.enum-told2.given.1 c.before.move-descriptor.ensures
+    c.plain3.ensures ∙ dtmf_is a.descriptors.now a.offset a.len (omega arith) (omega arith) _ rd.read-descriptor.ensures _ _ _ d.d.given.1 c.before.before.enum-told2.given.1 c.before.move-descriptor.ensures
 
 enum-told-3 : tie.Need-enum-told-3
 enum-told-3 c = search rules
@@ -122,17 +122,17 @@ move-descriptor-requires-2 c κs =
     let d = c.before.before.before in
     let rd = d.before.before in
     let a = (start rd).args in
-    is-movable a.descriptors.now (a.offset + 6) (a.offset + (a.len + 2) - (a.offset + 6)) _ _ _ _ rd.read-descriptor.ensures d.d.given.1 (omega arith) (omega arith)
+    is_movable a.descriptors.now (a.offset + 6) (a.offset + (a.len + 2) - (a.offset + 6)) _ _ _ _ rd.read-descriptor.ensures d.d.given.1 (omega arith) (omega arith)
 
 plain-requires-4 : tie.Need-plain-requires-4
 plain-requires-4 c κs = search rules
 
-returns-4 : tie.Need-returns-4
-returns-4 c =
+returns_4 : tie.Need-returns-4
+returns_4 c =
     let d = c.before.before.before.before.before in
     let rd = d.before.before in
     let a = (start rd).args in
-    c.plain4.ensures ∙ segmentation-is a.descriptors.now a.offset a.len (omega arith) (omega arith) _ rd.read-descriptor.ensures _ _ _ d.d.given.1 c.before.before.enum-told3.given.1 c.before.move-descriptor2.ensures
+    c.plain4.ensures ∙ segmentation_is_lem a.descriptors.now a.offset a.len (omega arith) (omega arith) _ rd.read-descriptor.ensures _ _ _ d.d.given.1 c.before.before.enum-told3.given.1 c.before.move-descriptor2.ensures
 
 enum-told-4 : tie.Need-enum-told-4
 enum-told-4 c = search rules
@@ -140,12 +140,12 @@ enum-told-4 c = search rules
 plain-requires-5 : tie.Need-plain-requires-5
 plain-requires-5 c κs = search rules
 
-returns-5 : tie.Need-returns-5
-returns-5 c =
+returns_5 : tie.Need-returns-5
+returns_5 c =
     let d = c.before.before.before.before in
     let rd = d.before.before in
     let a = (start rd).args in
-    c.plain5.ensures ∙ time-is a.descriptors.now a.offset a.len (omega arith) (omega arith) _ rd.read-descriptor.ensures _ _ d.d.given.1 c.before.enum-told4.given.1
+    c.plain5.ensures ∙ time_is a.descriptors.now a.offset a.len (omega arith) (omega arith) _ rd.read-descriptor.ensures _ _ d.d.given.1 c.before.enum-told4.given.1
 
 enum-told-5 : tie.Need-enum-told-5
 enum-told-5 c = search rules
@@ -155,17 +155,17 @@ move-descriptor-requires-3 c κs =
     let d = c.before.before.before in
     let rd = d.before.before in
     let a = (start rd).args in
-    is-movable a.descriptors.now (a.offset + 6) (a.offset + (a.len + 2) - (a.offset + 6)) _ _ _ _ rd.read-descriptor.ensures d.d.given.1 (omega arith) (omega arith)
+    is_movable a.descriptors.now (a.offset + 6) (a.offset + (a.len + 2) - (a.offset + 6)) _ _ _ _ rd.read-descriptor.ensures d.d.given.1 (omega arith) (omega arith)
 
 returns-6 : tie.Need-returns-6
 returns-6 c =
     let d = c.before.before.before.before in
     let rd = d.before.before in
     let a = (start rd).args in
-    reserved-is a.descriptors.now a.offset a.len (omega arith) (omega arith) _ rd.read-descriptor.ensures _ _ _ _ d.d.given.1 c.before.enum-told5.given.1 c.move-descriptor3.ensures
+    reserved_is a.descriptors.now a.offset a.len (omega arith) (omega arith) _ rd.read-descriptor.ensures _ _ _ _ d.d.given.1 c.before.enum-told5.given.1 c.move-descriptor3.ensures
 
-pub read-complete-spec : {M : Type 1} → statement M
-read-complete-spec =
+pub read_complete_spec : {M : Type 1} → statement M
+read_complete_spec =
     tie.close
     (tie.spec
     shared-slice-read-tag
@@ -191,18 +191,18 @@ read-complete-spec =
     enum-known-d
     enum_told
     plain-requires-2
-    returns-2
+    returns_2
     enum-told-2
     move-descriptor-requires
     plain-requires-3
-    returns-3
+    returns_3
     enum-told-3
     move-descriptor-requires-2
     plain-requires-4
-    returns-4
+    returns_4
     enum-told-4
     plain-requires-5
-    returns-5
+    returns_5
     enum-told-5
     move-descriptor-requires-3
     returns-6)

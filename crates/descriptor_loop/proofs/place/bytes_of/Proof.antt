@@ -12,5 +12,5 @@ view-requires c κs = search rules
 returns : tie.Need-returns
 returns c = rw (← c.before.view_of.ensures) c.view.ensures
 
-pub bytes-of-spec : {M : Type 1} → statement M
-bytes-of-spec = tie.close (tie.spec view-of-requires view-requires returns)
+pub bytes_of_spec : {M : Type 1} → statement M
+bytes_of_spec = tie.close (tie.spec view-of-requires view-requires returns)

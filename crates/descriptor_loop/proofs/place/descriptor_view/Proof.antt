@@ -30,23 +30,23 @@ enum-known-d-3 c = search rules
 returns : tie.Need-returns
 returns c = rw c.enum_told.given.1
 
-returns-2 : tie.Need-returns-2
-returns-2 c = search rules
+returns_2 : tie.Need-returns-2
+returns_2 c = search rules
 
-returns-3 : tie.Need-returns-3
-returns-3 c = rw (c.before.before.before.d2.given.1, c.enum-told2.given.1)
+returns_3 : tie.Need-returns-3
+returns_3 c = rw (c.before.before.before.d2.given.1, c.enum-told2.given.1)
 
-returns-4 : tie.Need-returns-4
-returns-4 c = rw (c.before.before.before.before.before.before.d2.given.1, c.before.before.before.detail.given.1) c.upid-view.ensures
+returns_4 : tie.Need-returns-4
+returns_4 c = rw (c.before.before.before.before.before.before.d2.given.1, c.before.before.before.detail.given.1) c.upid-view.ensures
 
-returns-5 : tie.Need-returns-5
-returns-5 c = rw c.enum-told3.given.1
+returns_5 : tie.Need-returns-5
+returns_5 c = rw c.enum-told3.given.1
 
 returns-6 : tie.Need-returns-6
 returns-6 c = search rules
 
-pub descriptor-view-spec : {M : Type 1} → statement M
-descriptor-view-spec =
+pub descriptor_view_spec : {M : Type 1} → statement M
+descriptor_view_spec =
     tie.close
     (tie.spec
     enum_told
@@ -58,8 +58,8 @@ descriptor-view-spec =
     enum-told-3
     enum-known-d-3
     returns
-    returns-2
-    returns-3
-    returns-4
-    returns-5
+    returns_2
+    returns_3
+    returns_4
+    returns_5
     returns-6)

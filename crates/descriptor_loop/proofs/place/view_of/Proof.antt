@@ -27,17 +27,17 @@ descriptor-view-requires c κs = search rules
 returns : tie.Need-returns
 returns c = rw c.enum_told.given.1
 
-returns-2 : tie.Need-returns-2
-returns-2 c = rw (c.before.before.before.item.given.1, c.enum-told2.given.1)
+returns_2 : tie.Need-returns-2
+returns_2 c = rw (c.before.before.before.item.given.1, c.enum-told2.given.1)
 
-returns-3 : tie.Need-returns-3
-returns-3 c = search rules
+returns_3 : tie.Need-returns-3
+returns_3 c = search rules
 
-returns-4 : tie.Need-returns-4
-returns-4 c = search rules
+returns_4 : tie.Need-returns-4
+returns_4 c = search rules
 
-pub view-of-spec : {M : Type 1} → statement M
-view-of-spec =
+pub view_of_spec : {M : Type 1} → statement M
+view_of_spec =
     tie.close
     (tie.spec
     enum_told
@@ -48,6 +48,6 @@ view-of-spec =
     enum-known-item-2
     descriptor-view-requires
     returns
-    returns-2
-    returns-3
-    returns-4)
+    returns_2
+    returns_3
+    returns_4)

@@ -1,6 +1,6 @@
 -- `descriptor_loop::reading::read_item` meets its contract: the payload of a descriptor lies in the loop.
 use native.Mathlib.Omega.{arith}
-use Rattle.descriptor_loop.proofs.Readings.{payload-there, reading-is}
+use Rattle.descriptor_loop.proofs.Readings.{payload_there, reading_is_lem}
 use borrow.Author.Rules.{rules}
 use Rattle.descriptor_loop.proofs.reading.read_item.Statement.{statement}
 use Rattle.descriptor_loop.proofs.reading.read_item.Tie as tie
@@ -28,28 +28,28 @@ add_start c =
     let item = c.before in
     let step = item.before.before in
     let a = step.before.before.args in
-    omega (arith, payload-there a.descriptors.now a.offset _ step.step.ensures _ item.item.given.1)
+    omega (arith, payload_there a.descriptors.now a.offset _ step.step.ensures _ item.item.given.1)
 
 sub-beside-of : tie.Need-overflow-sub-beside-of
 sub-beside-of c =
     let item = c.before in
     let step = item.before.before in
     let a = step.before.before.args in
-    omega (arith, payload-there a.descriptors.now a.offset _ step.step.ensures _ item.item.given.1)
+    omega (arith, payload_there a.descriptors.now a.offset _ step.step.ensures _ item.item.given.1)
 
 part-beside-of-start : tie.Need-slice-bounds-beside-of-start
 part-beside-of-start c =
     let item = c.before in
     let step = item.before.before in
     let a = step.before.before.args in
-    omega (arith, payload-there a.descriptors.now a.offset _ step.step.ensures _ item.item.given.1)
+    omega (arith, payload_there a.descriptors.now a.offset _ step.step.ensures _ item.item.given.1)
 
 part-beside-of-end : tie.Need-slice-bounds-beside-of-end
 part-beside-of-end c =
     let item = c.before in
     let step = item.before.before in
     let a = step.before.before.args in
-    omega (arith, payload-there a.descriptors.now a.offset _ step.step.ensures _ item.item.given.1)
+    omega (arith, payload_there a.descriptors.now a.offset _ step.step.ensures _ item.item.given.1)
 
 beside-of-requires : tie.Need-beside-of-requires
 beside-of-requires c κs = search rules
@@ -59,24 +59,24 @@ returns c =
     let told = c.before in
     let step = told.before.before in
     let a = step.before.before.args in
-    reading-is a.descriptors.now a.offset _ step.step.ensures _ told.enum_told.given.1 _ c.blank-beside.ensures
+    reading_is_lem a.descriptors.now a.offset _ step.step.ensures _ told.enum_told.given.1 _ c.blank-beside.ensures
 
-returns-2 : tie.Need-returns-2
-returns-2 c =
+returns_2 : tie.Need-returns-2
+returns_2 c =
     let told = c.before in
     let step = told.before.before in
     let a = step.before.before.args in
-    reading-is a.descriptors.now a.offset _ step.step.ensures _ told.enum-told2.given.1 _ c.blank-beside2.ensures
+    reading_is_lem a.descriptors.now a.offset _ step.step.ensures _ told.enum-told2.given.1 _ c.blank-beside2.ensures
 
-returns-3 : tie.Need-returns-3
-returns-3 c =
+returns_3 : tie.Need-returns-3
+returns_3 c =
     let item = c.before.before.before in
     let step = item.before.before in
     let a = step.before.before.args in
-    reading-is a.descriptors.now a.offset _ step.step.ensures _ item.item.given.1 _ c.beside-of.ensures
+    reading_is_lem a.descriptors.now a.offset _ step.step.ensures _ item.item.given.1 _ c.beside-of.ensures
 
-pub read-item-spec : {M : Type 1} → statement M
-read-item-spec =
+pub read_item_spec : {M : Type 1} → statement M
+read_item_spec =
     tie.close
     (tie.spec
     step-requires
@@ -91,5 +91,5 @@ read-item-spec =
     part-beside-of-end
     beside-of-requires
     returns
-    returns-2
-    returns-3)
+    returns_2
+    returns_3)

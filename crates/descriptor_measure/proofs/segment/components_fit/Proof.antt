@@ -1,6 +1,6 @@
 -- `descriptor_measure::segment::components_fit`. The loop's invariant: what is left says what the whole says.
 use lib.Seq.{length-take-le, get_or-take}
-use Rattle.descriptor.specs.Segmentation.{blankComponent}
+use Rattle.descriptor.specs.Segmentation.{blank_component}
 use Prim.Native.Nat.{ℕ}
 use Prim.Native.Nat.{◌≤◌, ◌-◌}
 use mathlib.Core.Path.{◌≡◌, refl}
@@ -8,13 +8,13 @@ use native.Mathlib.Omega.{arith}
 use borrow.Author.Rules.{rules}
 use lib.ListN.{length, take, drop}
 use Rattle.table.specs.Writing.{within}
-use Rattle.descriptor_measure.specs.Private.{componentsFields}
-use Rattle.descriptor_measure.proofs.Tests.{parts-turn, parts-stop, parts-end}
+use Rattle.descriptor_measure.specs.Private.{components_fields}
+use Rattle.descriptor_measure.proofs.Tests.{parts_turn, parts_stop, parts_end}
 use Rattle.descriptor_measure.proofs.segment.components_fit.Statement.{statement}
 use Rattle.descriptor_measure.proofs.segment.components_fit.Tie as tie
 
 abbrev invariant-loop : tie.invariant-loop
-invariant-loop n components i₀ i = (i ≤ n) × (within (componentsFields (drop i (take n components))) ≡ within (componentsFields (take n components)))
+invariant-loop n components i₀ i = (i ≤ n) × (within (components_fields (drop i (take n components))) ≡ within (components_fields (take n components)))
 
 abbrev decreases-loop : tie.decreases-loop
 decreases-loop n components i₀ i = n - i
@@ -37,7 +37,7 @@ returns c =
     let a = l.before.args in
     let i = l.loop.i in
     let n = length-take-le a.n a.t1 (omega (arith, many l.before)) in
-    parts-stop (take a.n a.t1) i l.loop.invariant.1 (omega arith) _ (get_or-take a.n a.t1 i blankComponent (omega arith)) c.before.struct_known.given.0.fits c.if1.true
+    parts_stop (take a.n a.t1) i l.loop.invariant.1 (omega arith) _ (get_or-take a.n a.t1 i blank_component (omega arith)) c.before.struct_known.given.0.fits c.if1.true
 
 add-i : tie.Need-overflow-add-i invariant-loop decreases-loop
 add-i c = omega arith
@@ -51,15 +51,15 @@ loop-again c =
     let a = l.before.args in
     let i = l.loop.i in
     let n = length-take-le a.n a.t1 (omega (arith, many l.before)) in
-    (omega arith, parts-turn (take a.n a.t1) i l.loop.invariant.1 (omega arith) _ (get_or-take a.n a.t1 i blankComponent (omega arith)) c.before.struct_known.given.0.fits c.if1.false)
+    (omega arith, parts_turn (take a.n a.t1) i l.loop.invariant.1 (omega arith) _ (get_or-take a.n a.t1 i blank_component (omega arith)) c.before.struct_known.given.0.fits c.if1.false)
 
-returns-2 : tie.Need-returns-2 invariant-loop decreases-loop
-returns-2 c =
+returns_2 : tie.Need-returns-2 invariant-loop decreases-loop
+returns_2 c =
     let l = c.before in
-    parts-end l.before.args.t1 l.before.args.n l.loop.i l.loop.invariant.1 (omega arith)
+    parts_end l.before.args.t1 l.before.args.n l.loop.i l.loop.invariant.1 (omega arith)
 
-pub components-fit-spec : {M : Type 1} → statement M
-components-fit-spec =
+pub components_fit_spec : {M : Type 1} → statement M
+components_fit_spec =
     tie.close
     (tie.spec
     invariant-loop
@@ -71,4 +71,4 @@ components-fit-spec =
     add-i
     loop-less
     loop-again
-    returns-2)
+    returns_2)

@@ -18,13 +18,13 @@ enum-told-2 c = search rules
 enum-known-mode : tie.Need-enum-known-mode
 enum-known-mode c = search rules
 
-returns-2 : tie.Need-returns-2
-returns-2 c = rw (c.before.before.before.detail.given.1, c.enum-told2.given.1)
+returns_2 : tie.Need-returns-2
+returns_2 c = rw (c.before.before.before.detail.given.1, c.enum-told2.given.1)
 
-returns-3 : tie.Need-returns-3
-returns-3 c = rw (c.before.before.before.before.detail.given.1, c.before.mode.given.1)
+returns_3 : tie.Need-returns-3
+returns_3 c = rw (c.before.before.before.before.detail.given.1, c.before.mode.given.1)
 
-pub count-in-segmentation-spec : {M : Type 1} → statement M
-count-in-segmentation-spec =
+pub count_in_segmentation_spec : {M : Type 1} → statement M
+count_in_segmentation_spec =
     tie.close
-    (tie.spec enum_told returns enum-known-detail enum-told-2 enum-known-mode returns-2 returns-3)
+    (tie.spec enum_told returns enum-known-detail enum-told-2 enum-known-mode returns_2 returns_3)

@@ -1,5 +1,5 @@
 -- `descriptor_measure::segment::is_writable_active`, flag by flag.
-use Rattle.descriptor_measure.proofs.Tests.{writable-no-program, writable-no-lasting, writable-no-free, writable-type}
+use Rattle.descriptor_measure.proofs.Tests.{writable_no_program, writable_no_lasting, writable_no_free, writable_type}
 use borrow.Author.Rules.{rules}
 use Rattle.descriptor_measure.proofs.segment.is_writable_active.Statement.{statement}
 use Rattle.descriptor_measure.proofs.segment.is_writable_active.Tie as tie
@@ -14,7 +14,7 @@ returns : tie.Need-returns
 returns c =
     let b = c.before in
     let a = b.before in
-    writable-no-program a.before.args.i _ _ a.by-program.ensures b.agree.ensures c.if1.true
+    writable_no_program a.before.args.i _ _ a.by_program_lem.ensures b.agree.ensures c.if1.true
 
 lasts-requires : tie.Need-lasts-requires
 lasts-requires c κs = search rules
@@ -22,14 +22,14 @@ lasts-requires c κs = search rules
 agree-requires-2 : tie.Need-agree-requires-2
 agree-requires-2 c κs = search rules
 
-returns-2 : tie.Need-returns-2
-returns-2 c =
+returns_2 : tie.Need-returns-2
+returns_2 c =
     let b2 = c.before in
     let a2 = b2.before in
     let e = a2.before in
     let b = e.before in
     let a = b.before in
-    writable-no-lasting a.before.args.i _ _ a.by-program.ensures b.agree.ensures e.if1.false _ _ a2.lasts.ensures b2.agree2.ensures c.if2.true
+    writable_no_lasting a.before.args.i _ _ a.by_program_lem.ensures b.agree.ensures e.if1.false _ _ a2.lasts.ensures b2.agree2.ensures c.if2.true
 
 is-free-requires : tie.Need-is-free-requires
 is-free-requires c κs = search rules
@@ -37,8 +37,8 @@ is-free-requires c κs = search rules
 agree-requires-3 : tie.Need-agree-requires-3
 agree-requires-3 c κs = search rules
 
-returns-3 : tie.Need-returns-3
-returns-3 c =
+returns_3 : tie.Need-returns-3
+returns_3 c =
     let b3 = c.before in
     let a3 = b3.before in
     let e2 = a3.before in
@@ -47,13 +47,13 @@ returns-3 c =
     let e = a2.before in
     let b = e.before in
     let a = b.before in
-    writable-no-free a.before.args.i _ _ a.by-program.ensures b.agree.ensures e.if1.false _ _ a2.lasts.ensures b2.agree2.ensures e2.if2.false _ _ a3.is_free.ensures b3.agree3.ensures c.if3.true
+    writable_no_free a.before.args.i _ _ a.by_program_lem.ensures b.agree.ensures e.if1.false _ _ a2.lasts.ensures b2.agree2.ensures e2.if2.false _ _ a3.is_free.ensures b3.agree3.ensures c.if3.true
 
 writable-requires : tie.Need-writable-requires
 writable-requires c κs = search rules
 
-returns-4 : tie.Need-returns-4
-returns-4 c =
+returns_4 : tie.Need-returns-4
+returns_4 c =
     let e3 = c.before in
     let b3 = e3.before in
     let a3 = b3.before in
@@ -63,10 +63,10 @@ returns-4 c =
     let e = a2.before in
     let b = e.before in
     let a = b.before in
-    writable-type a.before.args.i _ _ a.by-program.ensures b.agree.ensures e.if1.false _ _ a2.lasts.ensures b2.agree2.ensures e2.if2.false _ _ a3.is_free.ensures b3.agree3.ensures e3.if3.false _ c.writable.ensures
+    writable_type a.before.args.i _ _ a.by_program_lem.ensures b.agree.ensures e.if1.false _ _ a2.lasts.ensures b2.agree2.ensures e2.if2.false _ _ a3.is_free.ensures b3.agree3.ensures e3.if3.false _ c.writable.ensures
 
-pub is-writable-active-spec : {M : Type 1} → statement M
-is-writable-active-spec =
+pub is_writable_active_spec : {M : Type 1} → statement M
+is_writable_active_spec =
     tie.close
     (tie.spec
     by-program-requires
@@ -74,9 +74,9 @@ is-writable-active-spec =
     returns
     lasts-requires
     agree-requires-2
-    returns-2
+    returns_2
     is-free-requires
     agree-requires-3
-    returns-3
+    returns_3
     writable-requires
-    returns-4)
+    returns_4)

@@ -1,6 +1,6 @@
 -- `descriptor_measure::segment::mode_fits`, by cases.
 use native.Mathlib.Omega.{arith}
-use Rattle.descriptor_measure.proofs.Tests.{mode-none, mode-byte}
+use Rattle.descriptor_measure.proofs.Tests.{mode_none, mode_byte}
 use borrow.Author.Rules.{rules}
 use Rattle.descriptor_measure.proofs.segment.mode_fits.Statement.{statement}
 use Rattle.descriptor_measure.proofs.segment.mode_fits.Tie as tie
@@ -18,13 +18,13 @@ components-fit-requires : tie.Need-components-fit-requires
 components-fit-requires c κs = search rules
 
 returns : tie.Need-returns
-returns c = mode-none _ _ c.enum_told.given.1
+returns c = mode_none _ _ c.enum_told.given.1
 
-returns-2 : tie.Need-returns-2
-returns-2 c = mode-byte _ c.before.before.mode.given.0.0 _ _ c.before.before.mode.given.1 (omega arith) c.components-fit.ensures
+returns_2 : tie.Need-returns-2
+returns_2 c = mode_byte _ c.before.before.mode.given.0.0 _ _ c.before.before.mode.given.1 (omega arith) c.components-fit.ensures
 
-pub mode-fits-spec : {M : Type 1} → statement M
-mode-fits-spec =
+pub mode_fits_spec : {M : Type 1} → statement M
+mode_fits_spec =
     tie.close
     (tie.spec
     enum_told
@@ -32,4 +32,4 @@ mode-fits-spec =
     cast-components-fit
     components-fit-requires
     returns
-    returns-2)
+    returns_2)

@@ -23,10 +23,10 @@ add-result c = search rules
 returns : tie.Need-returns
 returns c = search rules
 
-returns-2 : tie.Need-returns-2
-returns-2 c = (rw c.before.mode.given.1, (let z : 1 + c.before.mode.given.0.0 * 6 < 1532 = omega arith in z))
+returns_2 : tie.Need-returns-2
+returns_2 c = (rw c.before.mode.given.1, (let z : 1 + c.before.mode.given.0.0 * 6 < 1532 = omega arith in z))
 
-pub mode-size-spec : {M : Type 1} → statement M
-mode-size-spec =
+pub mode_size_spec : {M : Type 1} → statement M
+mode_size_spec =
     tie.close
-    (tie.spec enum_told enum-known-mode cast-result mul-result add-result returns returns-2)
+    (tie.spec enum_told enum-known-mode cast-result mul-result add-result returns returns_2)

@@ -9,5 +9,5 @@ refusal-without-components-requires c κs = search rules
 returns : tie.Need-returns
 returns c = c.refusal-without-components.ensures.no-components
 
-pub refusal-with-no-components-spec : {M : Type 1} → statement M
-refusal-with-no-components-spec = tie.close (tie.spec refusal-without-components-requires returns)
+pub refusal_with_no_components_spec : {M : Type 1} → statement M
+refusal_with_no_components_spec = tie.close (tie.spec refusal-without-components-requires returns)

@@ -2,7 +2,7 @@
 use mathlib.Core.Path.{◌≡◌, ap, sym, ◌∙◌}
 use native.Mathlib.Omega.{arith}
 use borrow.Author.Rules.{rules}
-use Rattle.descriptor_measure.proofs.Refusals.{cancel-identifier, cancel-eidr, cancel-writable, refused_all, refused-active}
+use Rattle.descriptor_measure.proofs.Refusals.{cancel_identifier, cancel_eidr, cancel_writable, refused_all, refused_active}
 use Rattle.descriptor_measure.proofs.segment.refusal_without_components.Statement.{statement}
 use Rattle.descriptor_measure.proofs.segment.refusal_without_components.Tie as tie
 
@@ -18,7 +18,7 @@ is-zero-requires c κs = search rules
 returns : tie.Need-returns
 returns c =
     let a = c.before.before.before.before.before.before.args in
-    refused_all _ _ _ _ _ (λ cs. cancel-identifier a.x a.t2 cs a.t3 a.lent.now c.before.before.before.enum_told.given.1 (omega (arith, c.before.before.before.before.before.before)) _ c.before.is_zero.ensures c.if1.true)
+    refused_all _ _ _ _ _ (λ cs. cancel_identifier a.x a.t2 cs a.t3 a.lent.now c.before.before.before.enum_told.given.1 (omega (arith, c.before.before.before.before.before.before)) _ c.before.is_zero.ensures c.if1.true)
 
 slice-aggregate-is-zero-2 : tie.Need-slice-aggregate-is-zero-2
 slice-aggregate-is-zero-2 c = search rules
@@ -26,10 +26,10 @@ slice-aggregate-is-zero-2 c = search rules
 is-zero-requires-2 : tie.Need-is-zero-requires-2
 is-zero-requires-2 c κs = search rules
 
-returns-2 : tie.Need-returns-2
-returns-2 c =
+returns_2 : tie.Need-returns-2
+returns_2 c =
     let a = c.before.before.before.before.before.before.before.before.before.args in
-    refused_all _ _ _ _ _ (λ cs. cancel-eidr a.x a.t2 cs a.t3 a.lent.now c.before.before.before.before.before.before.enum_told.given.1 (omega (arith, c.before.before.before.before.before.before.before.before.before)) _ c.before.before.before.before.is_zero.ensures c.before.before.before.if1.false _ c.before.is-zero2.ensures c.if2.true)
+    refused_all _ _ _ _ _ (λ cs. cancel_eidr a.x a.t2 cs a.t3 a.lent.now c.before.before.before.before.before.before.enum_told.given.1 (omega (arith, c.before.before.before.before.before.before.before.before.before)) _ c.before.before.before.before.is_zero.ensures c.before.before.before.if1.false _ c.before.is-zero2.ensures c.if2.true)
 
 enum-known-detail : tie.Need-enum-known-detail
 enum-known-detail c = search rules
@@ -37,16 +37,16 @@ enum-known-detail c = search rules
 refusal-of-active-requires : tie.Need-refusal-of-active-requires
 refusal-of-active-requires c κs = search rules
 
-returns-3 : tie.Need-returns-3
-returns-3 c =
+returns_3 : tie.Need-returns-3
+returns_3 c =
     let a = c.before.before.before.before.before.before.before.before.before.args in
-    refused_all _ _ _ _ _ (λ cs. cancel-writable a.x a.t2 cs a.t3 a.lent.now c.before.before.before.before.before.before.enum_told.given.1 (omega (arith, c.before.before.before.before.before.before.before.before.before)) _ c.before.before.before.before.is_zero.ensures c.before.before.before.if1.false _ c.before.is-zero2.ensures c.if2.false)
+    refused_all _ _ _ _ _ (λ cs. cancel_writable a.x a.t2 cs a.t3 a.lent.now c.before.before.before.before.before.before.enum_told.given.1 (omega (arith, c.before.before.before.before.before.before.before.before.before)) _ c.before.before.before.before.is_zero.ensures c.before.before.before.if1.false _ c.before.is-zero2.ensures c.if2.false)
 
-returns-4 : tie.Need-returns-4
-returns-4 c = refused-active _ _ _ _ _ _ c.before.before.detail.given.1 c.refusal-of-active.ensures
+returns_4 : tie.Need-returns-4
+returns_4 c = refused_active _ _ _ _ _ _ c.before.before.detail.given.1 c.refusal-of-active.ensures
 
-pub refusal-without-components-spec : {M : Type 1} → statement M
-refusal-without-components-spec =
+pub refusal_without_components_spec : {M : Type 1} → statement M
+refusal_without_components_spec =
     tie.close
     (tie.spec
     enum_told
@@ -55,8 +55,8 @@ refusal-without-components-spec =
     returns
     slice-aggregate-is-zero-2
     is-zero-requires-2
-    returns-2
+    returns_2
     enum-known-detail
     refusal-of-active-requires
-    returns-3
-    returns-4)
+    returns_3
+    returns_4)

@@ -1,5 +1,5 @@
 -- `descriptor_measure::segment::sub_segments_fit`: a byte fits.
-use Rattle.descriptor_measure.proofs.Tests.{sub-over, sub-byte}
+use Rattle.descriptor_measure.proofs.Tests.{sub_over, sub_byte}
 use borrow.Author.Rules.{rules}
 use Rattle.descriptor_measure.proofs.segment.sub_segments_fit.Statement.{statement}
 use Rattle.descriptor_measure.proofs.segment.sub_segments_fit.Tie as tie
@@ -14,19 +14,19 @@ wide-requires : tie.Need-wide-requires
 wide-requires c κs = search rules
 
 returns : tie.Need-returns
-returns c = sub-over _ _ c.before.before.before.sub-segments.given.1 _ c.before.wide.ensures.0 c.if1.true c.before.wide.ensures.1
+returns c = sub_over _ _ c.before.before.before.sub-segments.given.1 _ c.before.wide.ensures.0 c.if1.true c.before.wide.ensures.1
 
 wide-requires-2 : tie.Need-wide-requires-2
 wide-requires-2 c κs = search rules
 
-returns-2 : tie.Need-returns-2
-returns-2 c = search rules
+returns_2 : tie.Need-returns-2
+returns_2 c = search rules
 
-returns-3 : tie.Need-returns-3
-returns-3 c = sub-byte _ _ c.before.before.before.before.sub-segments.given.1 _ _ c.before.before.wide.ensures.0 c.before.if1.false c.wide2.ensures.0
+returns_3 : tie.Need-returns-3
+returns_3 c = sub_byte _ _ c.before.before.before.before.sub-segments.given.1 _ _ c.before.before.wide.ensures.0 c.before.if1.false c.wide2.ensures.0
 
-pub sub-segments-fit-spec : {M : Type 1} → statement M
-sub-segments-fit-spec =
+pub sub_segments_fit_spec : {M : Type 1} → statement M
+sub_segments_fit_spec =
     tie.close
     (tie.spec
     enum_told
@@ -34,5 +34,5 @@ sub-segments-fit-spec =
     wide-requires
     returns
     wide-requires-2
-    returns-2
-    returns-3)
+    returns_2
+    returns_3)

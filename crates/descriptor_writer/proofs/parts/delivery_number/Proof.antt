@@ -1,7 +1,7 @@
 -- `descriptor_writer::parts::delivery_number`, by cases.
 use mathlib.Core.Path.{refl, ◌∙◌}
 use native.Mathlib.Omega.{arith}
-use Rattle.descriptor_writer.proofs.Joining.{device-small, delivery-none, delivery-bits}
+use Rattle.descriptor_writer.proofs.Joining.{device_small, delivery_none, delivery_bits}
 use borrow.Author.Rules.{rules}
 use Rattle.descriptor_writer.proofs.parts.delivery_number.Statement.{statement}
 use Rattle.descriptor_writer.proofs.parts.delivery_number.Tie as tie
@@ -46,22 +46,22 @@ add-result-3 : tie.Need-overflow-add-result-3
 add-result-3 c = search rules
 
 returns : tie.Need-returns
-returns c = (omega arith, λ from. delivery-none from _ c.enum_told.given.1)
+returns c = (omega arith, λ from. delivery_none from _ c.enum_told.given.1)
 
-returns-2 : tie.Need-returns-2
-returns-2 c =
+returns_2 : tie.Need-returns-2
+returns_2 c =
     let b = c.before in
     let n₃ = b.before in
     let n₂ = n₃.before in
     let n₁ = n₂.before in
     let d = n₁.before.before in
     let v = c.wide.ensures.0 ∙ b.bits.ensures in (
-      omega (arith, n₁.flag-number.ensures.1, n₂.flag-number2.ensures.1, n₃.flag-number3.ensures.1, v, device-small d.delivery.given.0.0.device_restrictions),
-      λ from. delivery-bits from _ _ _ _ _ _ _ d.delivery.given.1 n₁.flag-number.ensures n₂.flag-number2.ensures n₃.flag-number3.ensures v refl,
+      omega (arith, n₁.flag-number.ensures.1, n₂.flag-number2.ensures.1, n₃.flag-number3.ensures.1, v, device_small d.delivery.given.0.0.device_restrictions),
+      λ from. delivery_bits from _ _ _ _ _ _ _ d.delivery.given.1 n₁.flag-number.ensures n₂.flag-number2.ensures n₃.flag-number3.ensures v refl,
     )
 
-pub delivery-number-spec : {M : Type 1} → statement M
-delivery-number-spec =
+pub delivery_number_spec : {M : Type 1} → statement M
+delivery_number_spec =
     tie.close
     (tie.spec
     enum_told
@@ -78,4 +78,4 @@ delivery-number-spec =
     wide-requires
     add-result-3
     returns
-    returns-2)
+    returns_2)

@@ -1,5 +1,5 @@
 -- `descriptor_writer::parts::store_back`, field by field.
-use Rattle.descriptor_writer.proofs.Storing.{number-then}
+use Rattle.descriptor_writer.proofs.Storing.{number_then}
 use mathlib.Core.Path.{refl, ◌∙◌}
 use borrow.Author.Rules.{rules}
 use Rattle.descriptor_writer.proofs.parts.store_back.Statement.{statement}
@@ -34,13 +34,13 @@ same_length c = search rules
 
 returns : tie.Need-returns
 returns c =
-    λ from. number-then _ _ _ _ _ _ _ 8 _ _ (c.before.before.before.before.before.before.before.before.before.before.before.before.before.before.before.before.before.wide.ensures.0 ∙ c.before.before.before.before.before.before.before.before.before.before.before.before.before.before.before.before.before.before.id.ensures) c.before.before.before.before.before.before.before.before.before.before.before.before.before.before.before.before.put-bits.ensures
-    (number-then _ _ _ _ _ _ _ 8 _ _ c.before.before.before.before.before.before.before.before.before.before.before.before.wide2.ensures.0 c.before.before.before.before.before.before.before.before.before.before.before.put-bits2.ensures
-    (number-then _ _ _ _ _ _ _ 8 _ _ c.before.before.before.before.before.before.before.wide3.ensures.0 c.before.before.before.before.before.before.put-bits3.ensures
+    λ from. number_then _ _ _ _ _ _ _ 8 _ _ (c.before.before.before.before.before.before.before.before.before.before.before.before.before.before.before.before.before.wide.ensures.0 ∙ c.before.before.before.before.before.before.before.before.before.before.before.before.before.before.before.before.before.before.id.ensures) c.before.before.before.before.before.before.before.before.before.before.before.before.before.before.before.before.put-bits.ensures
+    (number_then _ _ _ _ _ _ _ 8 _ _ c.before.before.before.before.before.before.before.before.before.before.before.before.wide2.ensures.0 c.before.before.before.before.before.before.before.before.before.before.before.put-bits2.ensures
+    (number_then _ _ _ _ _ _ _ 8 _ _ c.before.before.before.before.before.before.before.wide3.ensures.0 c.before.before.before.before.before.before.put-bits3.ensures
     (c.before.before.store-sub-segments.ensures from)))
 
-pub store-back-spec : {M : Type 1} → statement M
-store-back-spec =
+pub store_back_spec : {M : Type 1} → statement M
+store_back_spec =
     tie.close
     (tie.spec
     id-requires

@@ -1,7 +1,7 @@
 -- `descriptor_writer::parts::store_component`: tag, reserved bits and offset as one number.
 use mathlib.Core.Path.{refl}
-use Rattle.descriptor_writer.proofs.Storing.{put-joined}
-use Rattle.descriptor_writer.proofs.Joining.{component-bits}
+use Rattle.descriptor_writer.proofs.Storing.{put_joined}
+use Rattle.descriptor_writer.proofs.Joining.{component_bits}
 use borrow.Author.Rules.{rules}
 use Rattle.descriptor_writer.proofs.parts.store_component.Statement.{statement}
 use Rattle.descriptor_writer.proofs.parts.store_component.Tie as tie
@@ -28,10 +28,10 @@ returns : tie.Need-returns
 returns c =
     let p = c.before.before in
     let w = p.before.before.before in
-    λ from. put-joined _ _ _ _ _ 48 _ (component-bits from w.before.before.args.component _ _ w.wide.ensures.0 refl) p.put-bits.ensures
+    λ from. put_joined _ _ _ _ _ 48 _ (component_bits from w.before.before.args.component _ _ w.wide.ensures.0 refl) p.put-bits.ensures
 
-pub store-component-spec : {M : Type 1} → statement M
-store-component-spec =
+pub store_component_spec : {M : Type 1} → statement M
+store_component_spec =
     tie.close
     (tie.spec
     wide-requires

@@ -7,14 +7,14 @@ use lib.ListN.{length, take}
 use borrow.Author.Rules.{rules}
 use Rattle.table.specs.Writing.{contents}
 use Rattle.table.specs.declared.cursor.Cursor.{Cursor}
-use Rattle.descriptor_measure.specs.Private.{componentsFields}
+use Rattle.descriptor_measure.specs.Private.{components_fields}
 use Rattle.descriptor_writer.specs.Private.{Stores}
-use Rattle.descriptor_writer.proofs.Storing.{put-none, component-next, components-all}
+use Rattle.descriptor_writer.proofs.Storing.{put_none, component_next, components_all}
 use Rattle.descriptor_writer.proofs.parts.store_components.Statement.{statement}
 use Rattle.descriptor_writer.proofs.parts.store_components.Tie as tie
 
 abbrev invariant-loop : tie.invariant-loop
-invariant-loop out₀ n components next₀ i₀ out next i = (i ≤ n) × (length out ≡ length out₀) × ((t : List ℕ) (c : Cursor) (from : List ℕ) → Stores t c [] out₀ next₀ → Stores t c (contents from (componentsFields (take i components))) out next)
+invariant-loop out₀ n components next₀ i₀ out next i = (i ≤ n) × (length out ≡ length out₀) × ((t : List ℕ) (c : Cursor) (from : List ℕ) → Stores t c [] out₀ next₀ → Stores t c (contents from (components_fields (take i components))) out next)
 
 abbrev decreases-loop : tie.decreases-loop
 decreases-loop out₀ n components next₀ i₀ out next i = n - i
@@ -43,7 +43,7 @@ loop-less c = omega arith
 loop-again : tie.Need-loop-preserved invariant-loop decreases-loop
 loop-again c =
     let l = c.before.before.before.before.before.before in
-    (omega arith, search rules, λ t d from s. component-next from t d c.before.before.before.before.before.before.before.before.before.before.before.before.args.t3 l.loop.i _ _ _ _ (omega (arith, c.before.before.before.before.before.before.before.before.before.before.before.before)) (l.loop.invariant.2 t d from s) (c.before.before.store-component.ensures from))
+    (omega arith, search rules, λ t d from s. component_next from t d c.before.before.before.before.before.before.before.before.before.before.before.before.args.t3 l.loop.i _ _ _ _ (omega (arith, c.before.before.before.before.before.before.before.before.before.before.before.before)) (l.loop.invariant.2 t d from s) (c.before.before.store-component.ensures from))
 
 same_length : tie.Need-same-length invariant-loop decreases-loop
 same_length c = search rules
@@ -52,10 +52,10 @@ returns : tie.Need-returns invariant-loop decreases-loop
 returns c =
     let l = c.before in
     let s = l.before.before.before.before.before.before in
-    λ from. components-all from _ _ s.args.t3 l.loop.i s.args.n _ _ (omega arith) (omega arith) (l.loop.invariant.2 _ _ from (put-none _ _ _ _ c.before.before.before.before.put-bits.ensures))
+    λ from. components_all from _ _ s.args.t3 l.loop.i s.args.n _ _ (omega arith) (omega arith) (l.loop.invariant.2 _ _ from (put_none _ _ _ _ c.before.before.before.before.put-bits.ensures))
 
-pub store-components-spec : {M : Type 1} → statement M
-store-components-spec =
+pub store_components_spec : {M : Type 1} → statement M
+store_components_spec =
     tie.close
     (tie.spec
     invariant-loop

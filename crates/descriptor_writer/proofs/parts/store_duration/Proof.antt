@@ -1,5 +1,5 @@
 -- `descriptor_writer::parts::store_duration`, by cases.
-use Rattle.descriptor_writer.proofs.Storing.{put_same, put-none}
+use Rattle.descriptor_writer.proofs.Storing.{put_same, put_none}
 use mathlib.Core.Path.{refl, ◌∙◌}
 use borrow.Author.Rules.{rules}
 use Rattle.descriptor_writer.proofs.parts.store_duration.Statement.{statement}
@@ -21,16 +21,16 @@ same_length : tie.Need-same-length
 same_length c = search rules
 
 returns : tie.Need-returns
-returns c = λ from. rw c.before.before.before.before.enum_told.given.1 (put-none _ _ _ _ c.before.before.put-bits.ensures)
+returns c = λ from. rw c.before.before.before.before.enum_told.given.1 (put_none _ _ _ _ c.before.before.put-bits.ensures)
 
 same-length-2 : tie.Need-same-length-2
 same-length-2 c = search rules
 
-returns-2 : tie.Need-returns-2
-returns-2 c = λ from. rw c.before.before.before.before.before.duration.given.1 (put_same _ _ _ _ 40 _ _ refl c.before.before.put-bits2.ensures)
+returns_2 : tie.Need-returns-2
+returns_2 c = λ from. rw c.before.before.before.before.before.duration.given.1 (put_same _ _ _ _ 40 _ _ refl c.before.before.put-bits2.ensures)
 
-pub store-duration-spec : {M : Type 1} → statement M
-store-duration-spec =
+pub store_duration_spec : {M : Type 1} → statement M
+store_duration_spec =
     tie.close
     (tie.spec
     enum_told
@@ -40,4 +40,4 @@ store-duration-spec =
     same_length
     returns
     same-length-2
-    returns-2)
+    returns_2)

@@ -1,7 +1,7 @@
 -- `descriptor_writer::parts::store_flags`: three flags and the five bits behind them are one byte.
 use mathlib.Core.Path.{refl}
-use Rattle.descriptor_writer.proofs.Storing.{put-joined}
-use Rattle.descriptor_writer.proofs.Joining.{flags-bits}
+use Rattle.descriptor_writer.proofs.Storing.{put_joined}
+use Rattle.descriptor_writer.proofs.Joining.{flags_bits}
 use borrow.Author.Rules.{rules}
 use Rattle.descriptor_writer.proofs.parts.store_flags.Statement.{statement}
 use Rattle.descriptor_writer.proofs.parts.store_flags.Tie as tie
@@ -50,10 +50,10 @@ returns c =
     let n₂ = n₃.before in
     let n₁ = n₂.before in
     let a = n₁.before.before.args in
-    λ from. put-joined _ _ _ _ _ 8 _ (flags-bits from a.program a.lasts a.free a.delivery _ _ _ _ _ n₁.flag-number.ensures n₂.flag-number2.ensures n₃.flag-number3.ensures d.delivery-number.ensures.0 (d.delivery-number.ensures.1 from) refl) p.put-bits.ensures
+    λ from. put_joined _ _ _ _ _ 8 _ (flags_bits from a.program a.lasts a.free a.delivery _ _ _ _ _ n₁.flag-number.ensures n₂.flag-number2.ensures n₃.flag-number3.ensures d.delivery-number.ensures.0 (d.delivery-number.ensures.1 from) refl) p.put-bits.ensures
 
-pub store-flags-spec : {M : Type 1} → statement M
-store-flags-spec =
+pub store_flags_spec : {M : Type 1} → statement M
+store_flags_spec =
     tie.close
     (tie.spec
     flag-number-requires

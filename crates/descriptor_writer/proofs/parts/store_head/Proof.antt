@@ -1,7 +1,7 @@
 -- `descriptor_writer::parts::store_head`: event, cancel bit and reserved bits as one number.
 use mathlib.Core.Path.{refl}
-use Rattle.descriptor_writer.proofs.Storing.{put-joined}
-use Rattle.descriptor_writer.proofs.Joining.{head-bits}
+use Rattle.descriptor_writer.proofs.Storing.{put_joined}
+use Rattle.descriptor_writer.proofs.Joining.{head_bits}
 use borrow.Author.Rules.{rules}
 use Rattle.descriptor_writer.proofs.parts.store_head.Statement.{statement}
 use Rattle.descriptor_writer.proofs.parts.store_head.Tie as tie
@@ -32,10 +32,10 @@ returns c =
     let p = c.before.before in
     let n = p.before in
     let a = n.before.before.before.args in
-    λ from. put-joined _ _ _ _ _ 40 _ (head-bits from a.event a.cancel _ _ n.flag-number.ensures refl) p.put-bits.ensures
+    λ from. put_joined _ _ _ _ _ 40 _ (head_bits from a.event a.cancel _ _ n.flag-number.ensures refl) p.put-bits.ensures
 
-pub store-head-spec : {M : Type 1} → statement M
-store-head-spec =
+pub store_head_spec : {M : Type 1} → statement M
+store_head_spec =
     tie.close
     (tie.spec
     mul-put-bits

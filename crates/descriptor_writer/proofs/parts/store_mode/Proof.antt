@@ -1,6 +1,6 @@
 -- `descriptor_writer::parts::store_mode`, by cases.
-use Rattle.descriptor_writer.proofs.Storing.{number-then, put-bytes, put-none}
-use Rattle.descriptor_writer.proofs.Listing.{listed-stores}
+use Rattle.descriptor_writer.proofs.Storing.{number_then, put_bytes, put_none}
+use Rattle.descriptor_writer.proofs.Listing.{listed_stores}
 use borrow.Author.Rules.{rules}
 use Rattle.descriptor_writer.proofs.parts.store_mode.Statement.{statement}
 use Rattle.descriptor_writer.proofs.parts.store_mode.Tie as tie
@@ -27,18 +27,18 @@ same_length : tie.Need-same-length
 same_length c = search rules
 
 returns : tie.Need-returns
-returns c = λ from cs e. rw c.before.before.before.before.enum_told.given.1 (put-none _ _ _ _ c.before.before.put-bits.ensures)
+returns c = λ from cs e. rw c.before.before.before.before.enum_told.given.1 (put_none _ _ _ _ c.before.before.put-bits.ensures)
 
 same-length-2 : tie.Need-same-length-2
 same-length-2 c = search rules
 
-returns-2 : tie.Need-returns-2
-returns-2 c =
-    λ from cs e. rw c.before.before.before.before.before.before.before.before.before.before.mode.given.1 (number-then _ _ _ _ _ _ _ 8 _ _ c.before.before.before.before.before.before.before.wide.ensures.0 c.before.before.before.before.before.before.put-bits2.ensures
-    (listed-stores from cs _ _ _ _ _ e (put-bytes _ _ _ _ _ c.before.before.put-run.ensures)))
+returns_2 : tie.Need-returns-2
+returns_2 c =
+    λ from cs e. rw c.before.before.before.before.before.before.before.before.before.before.mode.given.1 (number_then _ _ _ _ _ _ _ 8 _ _ c.before.before.before.before.before.before.before.wide.ensures.0 c.before.before.before.before.before.before.put-bits2.ensures
+    (listed_stores from cs _ _ _ _ _ e (put_bytes _ _ _ _ _ c.before.before.put-run.ensures)))
 
-pub store-mode-spec : {M : Type 1} → statement M
-store-mode-spec =
+pub store_mode_spec : {M : Type 1} → statement M
+store_mode_spec =
     tie.close
     (tie.spec
     enum_told
@@ -50,4 +50,4 @@ store-mode-spec =
     same_length
     returns
     same-length-2
-    returns-2)
+    returns_2)

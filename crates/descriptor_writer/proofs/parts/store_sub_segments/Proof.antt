@@ -1,5 +1,5 @@
 -- `descriptor_writer::parts::store_sub_segments`, by cases.
-use Rattle.descriptor_writer.proofs.Storing.{number-then, put_same, put-none, count-then}
+use Rattle.descriptor_writer.proofs.Storing.{number_then, put_same, put_none, count_then}
 use mathlib.Core.Path.{refl, ◌∙◌}
 use borrow.Author.Rules.{rules}
 use Rattle.descriptor_writer.proofs.parts.store_sub_segments.Statement.{statement}
@@ -30,18 +30,18 @@ same_length : tie.Need-same-length
 same_length c = search rules
 
 returns : tie.Need-returns
-returns c = λ from. rw c.before.before.before.before.enum_told.given.1 (count-then _ _ _ _ 0 _ (put-none _ _ _ _ c.before.before.put-bits.ensures))
+returns c = λ from. rw c.before.before.before.before.enum_told.given.1 (count_then _ _ _ _ 0 _ (put_none _ _ _ _ c.before.before.put-bits.ensures))
 
 same-length-2 : tie.Need-same-length-2
 same-length-2 c = search rules
 
-returns-2 : tie.Need-returns-2
-returns-2 c =
-    λ from. rw c.before.before.before.before.before.before.before.before.before.before.before.sub-segments.given.1 (count-then _ _ _ _ 2 _ (number-then _ _ _ _ _ _ _ 8 _ _ c.before.before.before.before.before.before.before.before.wide.ensures.0 c.before.before.before.before.before.before.before.put-bits2.ensures
+returns_2 : tie.Need-returns-2
+returns_2 c =
+    λ from. rw c.before.before.before.before.before.before.before.before.before.before.before.sub-segments.given.1 (count_then _ _ _ _ 2 _ (number_then _ _ _ _ _ _ _ 8 _ _ c.before.before.before.before.before.before.before.before.wide.ensures.0 c.before.before.before.before.before.before.before.put-bits2.ensures
     (put_same _ _ _ _ 8 _ _ c.before.before.before.wide2.ensures.0 c.before.before.put-bits3.ensures)))
 
-pub store-sub-segments-spec : {M : Type 1} → statement M
-store-sub-segments-spec =
+pub store_sub_segments_spec : {M : Type 1} → statement M
+store_sub_segments_spec =
     tie.close
     (tie.spec
     enum_told
@@ -54,4 +54,4 @@ store-sub-segments-spec =
     same_length
     returns
     same-length-2
-    returns-2)
+    returns_2)

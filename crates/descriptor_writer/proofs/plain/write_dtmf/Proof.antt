@@ -1,7 +1,7 @@
 -- `descriptor_writer::plain::write_dtmf`, answer by answer.
 use mathlib.Core.Path.{refl}
 use native.Mathlib.Omega.{arith}
-use Rattle.descriptor_writer.proofs.Plainly.{dtmf-31, dtmf-32, dtmf-33, dtmf-36, dtmf-writes}
+use Rattle.descriptor_writer.proofs.Plainly.{dtmf_31, dtmf_32, dtmf_33, dtmf_36, dtmf_writes}
 use borrow.Author.Rules.{rules}
 use Rattle.descriptor_writer.proofs.plain.write_dtmf.Statement.{statement}
 use Rattle.descriptor_writer.proofs.plain.write_dtmf.Tie as tie
@@ -12,28 +12,28 @@ lies-in-requires c κs = search rules
 returns : tie.Need-returns
 returns c =
     let a = c.before.before.before.before.before.args in
-    dtmf-31 a.x _ _ a.lent.now a.target.now _ c.before.lies_in.ensures (omega (arith, c.before.before.before.before.before)) c.if1.true
+    dtmf_31 a.x _ _ a.lent.now a.target.now _ c.before.lies_in.ensures (omega (arith, c.before.before.before.before.before)) c.if1.true
 
-returns-2 : tie.Need-returns-2
-returns-2 c =
+returns_2 : tie.Need-returns-2
+returns_2 c =
     let a = c.before.before.before.before.before.before.before.args in
-    dtmf-32 a.x _ _ a.lent.now a.target.now _ c.before.before.before.lies_in.ensures (omega (arith, c.before.before.before.before.before.before.before)) c.before.before.if1.false c.if2.true
+    dtmf_32 a.x _ _ a.lent.now a.target.now _ c.before.before.before.lies_in.ensures (omega (arith, c.before.before.before.before.before.before.before)) c.before.before.if1.false c.if2.true
 
 is-alone-requires : tie.Need-is-alone-requires
 is-alone-requires c κs = search rules
 
-returns-3 : tie.Need-returns-3
-returns-3 c =
+returns_3 : tie.Need-returns-3
+returns_3 c =
     let a = c.before.before.before.before.before.before.before.before.before.args in
-    dtmf-33 a.x _ _ a.lent.now a.target.now _ c.before.before.before.before.before.lies_in.ensures (omega (arith, c.before.before.before.before.before.before.before.before.before)) c.before.before.before.before.if1.false c.before.before.if2.false _ c.before.is-alone.ensures c.if3.true
+    dtmf_33 a.x _ _ a.lent.now a.target.now _ c.before.before.before.before.before.lies_in.ensures (omega (arith, c.before.before.before.before.before.before.before.before.before)) c.before.before.before.before.if1.false c.before.before.if2.false _ c.before.is-alone.ensures c.if3.true
 
 add-if4 : tie.Need-overflow-add-if4
 add-if4 c = search rules
 
-returns-4 : tie.Need-returns-4
-returns-4 c =
+returns_4 : tie.Need-returns-4
+returns_4 c =
     let a = c.before.before.before.before.before.before.before.before.before.before.before.args in
-    dtmf-36 a.x _ _ a.lent.now a.target.now _ c.before.before.before.before.before.before.before.lies_in.ensures (omega (arith, c.before.before.before.before.before.before.before.before.before.before.before)) c.before.before.before.before.before.before.if1.false c.before.before.before.before.if2.false _ c.before.before.before.is-alone.ensures c.before.before.if3.false c.if4.true
+    dtmf_36 a.x _ _ a.lent.now a.target.now _ c.before.before.before.before.before.before.before.lies_in.ensures (omega (arith, c.before.before.before.before.before.before.before.before.before.before.before)) c.before.before.before.before.before.before.if1.false c.before.before.before.before.if2.false _ c.before.before.before.is-alone.ensures c.before.before.if3.false c.if4.true
 
 cuei-requires : tie.Need-cuei-requires
 cuei-requires c κs = search rules
@@ -71,22 +71,22 @@ add-t17 c = omega (arith, c.before.before.before.before.before.before.before.bef
 same_length : tie.Need-same-length
 same_length c = search rules
 
-returns-5 : tie.Need-returns-5
-returns-5 c =
+returns_5 : tie.Need-returns-5
+returns_5 c =
     let a = c.before.before.before.before.before.before.before.before.before.before.before.before.before.before.before.before.before.before.before.before.before.before.before.before.before.before.before.before.before.before.before.before.before.before.before.before.before.args in
-    dtmf-writes a.x _ _ a.lent.now a.target.now _ c.before.before.before.before.before.before.before.before.before.before.before.before.before.before.before.before.before.before.before.before.before.before.before.before.before.before.before.before.before.before.before.before.before.lies_in.ensures (omega (arith, c.before.before.before.before.before.before.before.before.before.before.before.before.before.before.before.before.before.before.before.before.before.before.before.before.before.before.before.before.before.before.before.before.before.before.before.before.before)) c.before.before.before.before.before.before.before.before.before.before.before.before.before.before.before.before.before.before.before.before.before.before.before.before.before.before.before.before.before.before.before.before.if1.false c.before.before.before.before.before.before.before.before.before.before.before.before.before.before.before.before.before.before.before.before.before.before.before.before.before.before.before.before.before.before.if2.false _ c.before.before.before.before.before.before.before.before.before.before.before.before.before.before.before.before.before.before.before.before.before.before.before.before.before.before.before.before.before.is-alone.ensures c.before.before.before.before.before.before.before.before.before.before.before.before.before.before.before.before.before.before.before.before.before.before.before.before.before.before.before.before.if3.false _ _ _ _ _ _ _ _ _ _ _ _ _ c.before.before.before.before.before.before.before.before.before.before.before.before.before.before.before.before.before.before.before.before.before.before.before.before.before.before.if4.false c.before.before.before.before.before.before.before.before.before.before.before.before.before.before.before.before.before.before.before.before.before.before.before.before.before.cuei.ensures c.before.before.before.before.before.before.before.before.before.before.before.before.before.before.before.before.before.before.before.before.before.store-envelope.ensures c.before.before.before.before.before.before.before.before.before.before.before.before.before.before.before.before.before.wide.ensures.0 c.before.before.before.before.before.before.before.before.before.before.before.before.before.before.before.before.put-bits.ensures c.before.before.before.before.before.before.before.before.before.before.before.before.put-bits2.ensures c.before.before.before.before.before.before.before.before.put-bits3.ensures c.before.before.before.before.before.view.ensures c.before.before.before.put-run.ensures
+    dtmf_writes a.x _ _ a.lent.now a.target.now _ c.before.before.before.before.before.before.before.before.before.before.before.before.before.before.before.before.before.before.before.before.before.before.before.before.before.before.before.before.before.before.before.before.before.lies_in.ensures (omega (arith, c.before.before.before.before.before.before.before.before.before.before.before.before.before.before.before.before.before.before.before.before.before.before.before.before.before.before.before.before.before.before.before.before.before.before.before.before.before)) c.before.before.before.before.before.before.before.before.before.before.before.before.before.before.before.before.before.before.before.before.before.before.before.before.before.before.before.before.before.before.before.before.if1.false c.before.before.before.before.before.before.before.before.before.before.before.before.before.before.before.before.before.before.before.before.before.before.before.before.before.before.before.before.before.before.if2.false _ c.before.before.before.before.before.before.before.before.before.before.before.before.before.before.before.before.before.before.before.before.before.before.before.before.before.before.before.before.before.is-alone.ensures c.before.before.before.before.before.before.before.before.before.before.before.before.before.before.before.before.before.before.before.before.before.before.before.before.before.before.before.before.if3.false _ _ _ _ _ _ _ _ _ _ _ _ _ c.before.before.before.before.before.before.before.before.before.before.before.before.before.before.before.before.before.before.before.before.before.before.before.before.before.before.if4.false c.before.before.before.before.before.before.before.before.before.before.before.before.before.before.before.before.before.before.before.before.before.before.before.before.before.cuei.ensures c.before.before.before.before.before.before.before.before.before.before.before.before.before.before.before.before.before.before.before.before.before.store-envelope.ensures c.before.before.before.before.before.before.before.before.before.before.before.before.before.before.before.before.before.wide.ensures.0 c.before.before.before.before.before.before.before.before.before.before.before.before.before.before.before.before.put-bits.ensures c.before.before.before.before.before.before.before.before.before.before.before.before.put-bits2.ensures c.before.before.before.before.before.before.before.before.put-bits3.ensures c.before.before.before.before.before.view.ensures c.before.before.before.put-run.ensures
 
-pub write-dtmf-spec : {M : Type 1} → statement M
-write-dtmf-spec =
+pub write_dtmf_spec : {M : Type 1} → statement M
+write_dtmf_spec =
     tie.close
     (tie.spec
     lies-in-requires
     returns
-    returns-2
+    returns_2
     is-alone-requires
-    returns-3
+    returns_3
     add-if4
-    returns-4
+    returns_4
     cuei-requires
     add-store-envelope
     slice-aggregate-store-envelope
@@ -99,4 +99,4 @@ write-dtmf-spec =
     put-run-requires
     add-t17
     same_length
-    returns-5)
+    returns_5)

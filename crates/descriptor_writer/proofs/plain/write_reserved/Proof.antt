@@ -1,7 +1,7 @@
 -- `descriptor_writer::plain::write_reserved`, answer by answer.
 use native.Mathlib.Omega.{arith}
 use borrow.Author.Rules.{rules}
-use Rattle.descriptor_writer.proofs.Plainly.{reserved-31, reserved-33, reserved-34, reserved-36, reserved-writes}
+use Rattle.descriptor_writer.proofs.Plainly.{reserved_31, reserved_33, reserved_34, reserved_36, reserved_writes}
 use Rattle.descriptor_writer.proofs.plain.write_reserved.Statement.{statement}
 use Rattle.descriptor_writer.proofs.plain.write_reserved.Tie as tie
 
@@ -11,28 +11,28 @@ lies-in-requires c κs = search rules
 returns : tie.Need-returns
 returns c =
     let a = c.before.before.before.before.args in
-    reserved-31 a.tag a.private-bytes _ _ a.lent.now a.target.now _ c.before.lies_in.ensures (omega (arith, c.before.before.before.before)) c.if1.true
+    reserved_31 a.tag a.private-bytes _ _ a.lent.now a.target.now _ c.before.lies_in.ensures (omega (arith, c.before.before.before.before)) c.if1.true
 
 is-writable-reserved-requires : tie.Need-is-writable-reserved-requires
 is-writable-reserved-requires c κs = search rules
 
-returns-2 : tie.Need-returns-2
-returns-2 c =
+returns_2 : tie.Need-returns-2
+returns_2 c =
     let a = c.before.before.before.before.before.before.args in
-    reserved-33 a.tag a.private-bytes _ _ a.lent.now a.target.now _ c.before.before.before.lies_in.ensures (omega (arith, c.before.before.before.before.before.before)) c.before.before.if1.false _ c.before.is-writable-reserved.ensures c.if2.true
+    reserved_33 a.tag a.private-bytes _ _ a.lent.now a.target.now _ c.before.before.before.lies_in.ensures (omega (arith, c.before.before.before.before.before.before)) c.before.before.if1.false _ c.before.is-writable-reserved.ensures c.if2.true
 
-returns-3 : tie.Need-returns-3
-returns-3 c =
+returns_3 : tie.Need-returns-3
+returns_3 c =
     let a = c.before.before.before.before.before.before.before.before.args in
-    reserved-34 a.tag a.private-bytes _ _ a.lent.now a.target.now _ c.before.before.before.before.before.lies_in.ensures (omega (arith, c.before.before.before.before.before.before.before.before)) c.before.before.before.before.if1.false _ c.before.before.before.is-writable-reserved.ensures c.before.before.if2.false c.if3.true
+    reserved_34 a.tag a.private-bytes _ _ a.lent.now a.target.now _ c.before.before.before.before.before.lies_in.ensures (omega (arith, c.before.before.before.before.before.before.before.before)) c.before.before.before.before.if1.false _ c.before.before.before.is-writable-reserved.ensures c.before.before.if2.false c.if3.true
 
 add-if4 : tie.Need-overflow-add-if4
 add-if4 c = search rules
 
-returns-4 : tie.Need-returns-4
-returns-4 c =
+returns_4 : tie.Need-returns-4
+returns_4 c =
     let a = c.before.before.before.before.before.before.before.before.before.before.args in
-    reserved-36 a.tag a.private-bytes _ _ a.lent.now a.target.now _ c.before.before.before.before.before.before.before.lies_in.ensures (omega (arith, c.before.before.before.before.before.before.before.before.before.before)) c.before.before.before.before.before.before.if1.false _ c.before.before.before.before.before.is-writable-reserved.ensures c.before.before.before.before.if2.false c.before.before.if3.false c.if4.true
+    reserved_36 a.tag a.private-bytes _ _ a.lent.now a.target.now _ c.before.before.before.before.before.before.before.lies_in.ensures (omega (arith, c.before.before.before.before.before.before.before.before.before.before)) c.before.before.before.before.before.before.if1.false _ c.before.before.before.before.before.is-writable-reserved.ensures c.before.before.before.before.if2.false c.before.before.if3.false c.if4.true
 
 add-store-envelope : tie.Need-overflow-add-store-envelope
 add-store-envelope c = search rules
@@ -55,22 +55,22 @@ add-t15 c = search rules
 same_length : tie.Need-same-length
 same_length c = search rules
 
-returns-5 : tie.Need-returns-5
-returns-5 c =
+returns_5 : tie.Need-returns-5
+returns_5 c =
     let a = c.before.before.before.before.before.before.before.before.before.before.before.before.before.before.before.before.before.before.before.before.before.before.args in
-    reserved-writes a.tag a.private-bytes _ _ a.lent.now a.target.now _ c.before.before.before.before.before.before.before.before.before.before.before.before.before.before.before.before.before.before.before.lies_in.ensures (omega (arith, c.before.before.before.before.before.before.before.before.before.before.before.before.before.before.before.before.before.before.before.before.before.before)) c.before.before.before.before.before.before.before.before.before.before.before.before.before.before.before.before.before.before.if1.false _ c.before.before.before.before.before.before.before.before.before.before.before.before.before.before.before.before.before.is-writable-reserved.ensures c.before.before.before.before.before.before.before.before.before.before.before.before.before.before.before.before.if2.false c.before.before.before.before.before.before.before.before.before.before.before.before.before.before.if3.false _ _ _ _ _ c.before.before.before.before.before.before.before.before.before.before.before.before.if4.false c.before.before.before.before.before.before.before.before.store-envelope.ensures c.before.before.before.before.before.view.ensures c.before.before.before.put-run.ensures
+    reserved_writes a.tag a.private-bytes _ _ a.lent.now a.target.now _ c.before.before.before.before.before.before.before.before.before.before.before.before.before.before.before.before.before.before.before.lies_in.ensures (omega (arith, c.before.before.before.before.before.before.before.before.before.before.before.before.before.before.before.before.before.before.before.before.before.before)) c.before.before.before.before.before.before.before.before.before.before.before.before.before.before.before.before.before.before.if1.false _ c.before.before.before.before.before.before.before.before.before.before.before.before.before.before.before.before.before.is-writable-reserved.ensures c.before.before.before.before.before.before.before.before.before.before.before.before.before.before.before.before.if2.false c.before.before.before.before.before.before.before.before.before.before.before.before.before.before.if3.false _ _ _ _ _ c.before.before.before.before.before.before.before.before.before.before.before.before.if4.false c.before.before.before.before.before.before.before.before.store-envelope.ensures c.before.before.before.before.before.view.ensures c.before.before.before.put-run.ensures
 
-pub write-reserved-spec : {M : Type 1} → statement M
-write-reserved-spec =
+pub write_reserved_spec : {M : Type 1} → statement M
+write_reserved_spec =
     tie.close
     (tie.spec
     lies-in-requires
     returns
     is-writable-reserved-requires
-    returns-2
-    returns-3
+    returns_2
+    returns_3
     add-if4
-    returns-4
+    returns_4
     add-store-envelope
     slice-aggregate-store-envelope
     store-envelope-requires
@@ -78,4 +78,4 @@ write-reserved-spec =
     put-run-requires
     add-t15
     same_length
-    returns-5)
+    returns_5)

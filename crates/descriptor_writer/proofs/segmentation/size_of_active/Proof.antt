@@ -1,6 +1,6 @@
 -- `descriptor_writer::segmentation::size_of_active`, part by part.
 use native.Mathlib.Omega.{arith}
-use Rattle.descriptor_writer.proofs.Segmenting.{written-len, size-sum, count_small}
+use Rattle.descriptor_writer.proofs.Segmenting.{written_len, size_sum, count_small}
 use borrow.Author.Rules.{rules}
 use Rattle.descriptor_writer.proofs.segmentation.size_of_active.Statement.{statement}
 use Rattle.descriptor_writer.proofs.segmentation.size_of_active.Tie as tie
@@ -21,7 +21,7 @@ upid-size-requires : tie.Need-upid-size-requires
 upid-size-requires c κs = search rules
 
 add-result-3 : tie.Need-overflow-add-result-3
-add-result-3 c = omega (arith, c.upid-size.ensures, written-len c.before.before.before.before.args.i.segmentation_upid c.before.before.before.before.requires)
+add-result-3 c = omega (arith, c.upid-size.ensures, written_len c.before.before.before.before.args.i.segmentation_upid c.before.before.before.before.requires)
 
 sub-size-requires : tie.Need-sub-size-requires
 sub-size-requires c κs = search rules
@@ -30,13 +30,13 @@ add-result-4 : tie.Need-overflow-add-result-4
 add-result-4 c = search rules
 
 add-result-5 : tie.Need-overflow-add-result-5
-add-result-5 c = omega (arith, c.before.upid-size.ensures, written-len c.before.before.before.before.before.args.i.segmentation_upid c.before.before.before.before.before.requires)
+add-result-5 c = omega (arith, c.before.upid-size.ensures, written_len c.before.before.before.before.before.args.i.segmentation_upid c.before.before.before.before.before.requires)
 
 returns : tie.Need-returns
-returns c = (size-sum _ _ _ _ _ c.before.before.before.mode-size.ensures.0 c.before.before.duration-size.ensures.0 c.before.upid-size.ensures c.sub-size.ensures.0, count_small c.before.before.before.before.before.args.i.segmentation_mode _ c.before.before.before.mode-size.ensures.0 c.before.before.before.mode-size.ensures.1)
+returns c = (size_sum _ _ _ _ _ c.before.before.before.mode-size.ensures.0 c.before.before.duration-size.ensures.0 c.before.upid-size.ensures c.sub-size.ensures.0, count_small c.before.before.before.before.before.args.i.segmentation_mode _ c.before.before.before.mode-size.ensures.0 c.before.before.before.mode-size.ensures.1)
 
-pub size-of-active-spec : {M : Type 1} → statement M
-size-of-active-spec =
+pub size_of_active_spec : {M : Type 1} → statement M
+size_of_active_spec =
     tie.close
     (tie.spec
     mode-size-requires

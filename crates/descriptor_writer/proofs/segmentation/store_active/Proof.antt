@@ -1,6 +1,6 @@
 -- `descriptor_writer::segmentation::store_active`, part by part.
-use Rattle.descriptor_measure.specs.Writing.{upidSource}
-use Rattle.descriptor_writer.proofs.Segmenting.{active-stores}
+use Rattle.descriptor_measure.specs.Writing.{upid_source}
+use Rattle.descriptor_writer.proofs.Segmenting.{active_stores}
 use borrow.Author.Rules.{rules}
 use Rattle.descriptor_writer.proofs.segmentation.store_active.Statement.{statement}
 use Rattle.descriptor_writer.proofs.segmentation.store_active.Tie as tie
@@ -43,11 +43,11 @@ returns c =
     let p = l.before in
     let f = p.before.before in
     let a = f.before.before.before.before.before.args in
-    let src = upidSource a.i.segmentation_upid a.eidr a.lent.now in
-    λ cs e. active-stores a.i cs src _ _ _ p.by-program.ensures l.lasts.ensures f.is_free.ensures _ _ _ _ _ _ _ _ _ _ _ _ (flags.store-flags.ensures src) (mode.store-mode.ensures src cs e) (duration.store-duration.ensures src) upid.store-written-upid.ensures (back.store-back.ensures src)
+    let src = upid_source a.i.segmentation_upid a.eidr a.lent.now in
+    λ cs e. active_stores a.i cs src _ _ _ p.by_program_lem.ensures l.lasts.ensures f.is_free.ensures _ _ _ _ _ _ _ _ _ _ _ _ (flags.store-flags.ensures src) (mode.store-mode.ensures src cs e) (duration.store-duration.ensures src) upid.store-written-upid.ensures (back.store-back.ensures src)
 
-pub store-active-spec : {M : Type 1} → statement M
-store-active-spec =
+pub store_active_spec : {M : Type 1} → statement M
+store_active_spec =
     tie.close
     (tie.spec
     is-free-requires

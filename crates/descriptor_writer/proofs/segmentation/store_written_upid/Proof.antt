@@ -1,7 +1,7 @@
 -- `descriptor_writer::segmentation::store_written_upid`: kind and length as one number, and the bytes by kind.
 use mathlib.Core.Path.{refl, ◌∙◌}
 use native.Mathlib.Omega.{arith}
-use Rattle.descriptor_writer.proofs.Segmenting.{upid-of-eidr, upid-of-view}
+use Rattle.descriptor_writer.proofs.Segmenting.{upid_of_eidr, upid_of_view}
 use borrow.Author.Rules.{rules}
 use Rattle.descriptor_writer.proofs.segmentation.store_written_upid.Statement.{statement}
 use Rattle.descriptor_writer.proofs.segmentation.store_written_upid.Tie as tie
@@ -43,7 +43,7 @@ returns c =
     let k = w.before in
     let o = k.before.before.before in
     let a = o.args in
-    upid-of-eidr _ _ _ _ _ _ a.u _ a.lent.now _ _ _ (w.wide.ensures.0 ∙ k.written_type.ensures) s.upid-size.ensures refl i.if1.true (omega (arith, o)) p.put-bits.ensures r.put-run.ensures
+    upid_of_eidr _ _ _ _ _ _ a.u _ a.lent.now _ _ _ (w.wide.ensures.0 ∙ k.written_type.ensures) s.upid-size.ensures refl i.if1.true (omega (arith, o)) p.put-bits.ensures r.put-run.ensures
 
 view-requires : tie.Need-view-requires
 view-requires c κs = search rules
@@ -54,8 +54,8 @@ put-run-requires-2 c κs = search rules
 same-length-2 : tie.Need-same-length-2
 same-length-2 c = search rules
 
-returns-2 : tie.Need-returns-2
-returns-2 c =
+returns_2 : tie.Need-returns-2
+returns_2 c =
     let r = c.before.before in
     let v = r.before.before in
     let i = v.before.before in
@@ -65,10 +65,10 @@ returns-2 c =
     let k = w.before in
     let o = k.before.before.before in
     let a = o.args in
-    upid-of-view _ _ _ _ _ _ a.u _ a.lent.now _ _ _ (w.wide.ensures.0 ∙ k.written_type.ensures) s.upid-size.ensures refl i.if1.false o.requires _ v.view.ensures p.put-bits.ensures r.put-run2.ensures
+    upid_of_view _ _ _ _ _ _ a.u _ a.lent.now _ _ _ (w.wide.ensures.0 ∙ k.written_type.ensures) s.upid-size.ensures refl i.if1.false o.requires _ v.view.ensures p.put-bits.ensures r.put-run2.ensures
 
-pub store-written-upid-spec : {M : Type 1} → statement M
-store-written-upid-spec =
+pub store_written_upid_spec : {M : Type 1} → statement M
+store_written_upid_spec =
     tie.close
     (tie.spec
     written-type-requires
@@ -84,4 +84,4 @@ store-written-upid-spec =
     view-requires
     put-run-requires-2
     same-length-2
-    returns-2)
+    returns_2)

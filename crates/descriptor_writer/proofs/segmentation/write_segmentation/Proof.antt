@@ -4,8 +4,8 @@ use mathlib.Core.List.{[]}
 use mathlib.Core.Path.{◌≡◌, sym, ◌∙◌}
 use native.Mathlib.Omega.{arith}
 use lib.ListN.{length, length-replicate}
-use Rattle.descriptor_writer.proofs.Listing.{all-zeros, listed-so}
-use Rattle.descriptor_writer.proofs.Segmenting.{segment-refused, segment-view}
+use Rattle.descriptor_writer.proofs.Listing.{all_zeros, listed_so}
+use Rattle.descriptor_writer.proofs.Segmenting.{segment_refused, segment_view}
 use borrow.Author.Rules.{rules}
 use Rattle.descriptor_writer.proofs.segmentation.write_segmentation.Statement.{statement}
 use Rattle.descriptor_writer.proofs.segmentation.write_segmentation.Tie as tie
@@ -16,7 +16,7 @@ refusal-of-segmentation-requires c κs = search rules
 returns : tie.Need-returns
 returns c =
     let a = c.before.before.before.before.args in
-    segment-refused a.x _ (record { components = a.components; eidr = a.eidr }) a.lent.now a.target.now _ c.before.refusal-of-segmentation.ensures c.if1.true
+    segment_refused a.x _ (record { components = a.components; eidr = a.eidr }) a.lent.now a.target.now _ c.before.refusal-of-segmentation.ensures c.if1.true
 
 count-in-segmentation-requires : tie.Need-count-in-segmentation-requires
 count-in-segmentation-requires c κs = search rules
@@ -45,22 +45,22 @@ part-write-tested-segmentation-end c = search rules
 write-tested-segmentation-requires : tie.Need-write-tested-segmentation-requires
 write-tested-segmentation-requires c κs =
     let a = c.before.before.before.before.before.before.before.before.before.before.before.args in
-    segment-view a.x _ (record { components = a.components; eidr = a.eidr }) a.lent.now a.target.now _ c.before.before.before.before.before.before.before.before.refusal-of-segmentation.ensures c.before.before.before.before.before.before.before.if1.false
+    segment_view a.x _ (record { components = a.components; eidr = a.eidr }) a.lent.now a.target.now _ c.before.before.before.before.before.before.before.before.refusal-of-segmentation.ensures c.before.before.before.before.before.before.before.if1.false
 
 same_length : tie.Need-same-length
 same_length c = search rules
 
-returns-2 : tie.Need-returns-2
-returns-2 c =
+returns_2 : tie.Need-returns-2
+returns_2 c =
     let z = c.before.before.before.before.before.before.before.before.before.before.before.before.before.before in
     let a = z.args in
     let n = c.before.before.before.before.before.before.before.before.before.count-in-segmentation in
     let many : length a.components ≡ 255 = omega (arith, z) in
     c.before.before.write-tested-segmentation.ensures.writable a.identifier a.components many (sym c.before.before.before.before.before.before.before.before.before.before.before.refusal-of-segmentation.ensures ∙ c.before.before.before.before.before.before.before.before.before.before.if1.false)
-    (listed-so a.x a.components _ n.ensures many (omega (arith, n)) _ (all-zeros 1530) (length-replicate {A = ℕ} 1530 0) _ _ (c.before.before.before.before.before.before.before.store-components.ensures []))
+    (listed_so a.x a.components _ n.ensures many (omega (arith, n)) _ (all_zeros 1530) (length-replicate {A = ℕ} 1530 0) _ _ (c.before.before.before.before.before.before.before.store-components.ensures []))
 
-pub write-segmentation-spec : {M : Type 1} → statement M
-write-segmentation-spec =
+pub write_segmentation_spec : {M : Type 1} → statement M
+write_segmentation_spec =
     tie.close
     (tie.spec
     refusal-of-segmentation-requires
@@ -75,4 +75,4 @@ write-segmentation-spec =
     part-write-tested-segmentation-end
     write-tested-segmentation-requires
     same_length
-    returns-2)
+    returns_2)

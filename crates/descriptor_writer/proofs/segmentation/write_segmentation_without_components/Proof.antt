@@ -4,9 +4,9 @@ use mathlib.Core.List.{[]}
 use mathlib.Core.Path.{◌≡◌, sym, ◌∙◌}
 use native.Mathlib.Omega.{arith}
 use Rattle.descriptor.specs.Full.{filled}
-use Rattle.descriptor_measure.proofs.Tests.{blanks-length}
-use Rattle.descriptor_writer.proofs.Listing.{none-listed}
-use Rattle.descriptor_writer.proofs.Segmenting.{segment-refused, segment-view, with-blanks}
+use Rattle.descriptor_measure.proofs.Tests.{blanks_length}
+use Rattle.descriptor_writer.proofs.Listing.{none_listed}
+use Rattle.descriptor_writer.proofs.Segmenting.{segment_refused, segment_view, with_blanks}
 use borrow.Author.Rules.{rules}
 use Rattle.descriptor_writer.proofs.segmentation.write_segmentation_without_components.Statement.{statement}
 use Rattle.descriptor_writer.proofs.segmentation.write_segmentation_without_components.Tie as tie
@@ -25,15 +25,15 @@ same_length c = search rules
 
 returns : tie.Need-returns
 returns c =
-    with-blanks _ _ _ _ _ _ _ _ c.before.before.before.before.before.blank-beside.ensures c.before.before.write-segmentation.ensures
+    with_blanks _ _ _ _ _ _ _ _ c.before.before.before.before.before.blank-beside.ensures c.before.before.write-segmentation.ensures
 
 refusal-with-no-components-requires : tie.Need-refusal-with-no-components-requires
 refusal-with-no-components-requires c κs = search rules
 
-returns-2 : tie.Need-returns-2
-returns-2 c =
+returns_2 : tie.Need-returns-2
+returns_2 c =
     let a = c.before.before.before.before.before.before.args in
-    segment-refused a.x _ (record { components = filled []; eidr = a.eidr }) a.lent.now a.target.now _ c.before.refusal-with-no-components.ensures c.if2.true
+    segment_refused a.x _ (record { components = filled []; eidr = a.eidr }) a.lent.now a.target.now _ c.before.refusal-with-no-components.ensures c.if2.true
 
 sub-write-tested-segmentation : tie.Need-overflow-sub-write-tested-segmentation
 sub-write-tested-segmentation c = search rules
@@ -47,19 +47,19 @@ part-write-tested-segmentation-end c = search rules
 write-tested-segmentation-requires : tie.Need-write-tested-segmentation-requires
 write-tested-segmentation-requires c κs =
     let a = c.before.before.before.before.before.before.before.before.args in
-    segment-view a.x _ (record { components = filled []; eidr = a.eidr }) a.lent.now a.target.now _ c.before.before.before.refusal-with-no-components.ensures c.before.before.if2.false
+    segment_view a.x _ (record { components = filled []; eidr = a.eidr }) a.lent.now a.target.now _ c.before.before.before.refusal-with-no-components.ensures c.before.before.if2.false
 
 same-length-2 : tie.Need-same-length-2
 same-length-2 c = search rules
 
-returns-3 : tie.Need-returns-3
-returns-3 c =
+returns_3 : tie.Need-returns-3
+returns_3 c =
     let a = c.before.before.before.before.before.before.before.before.before.before.before.args in
-    c.before.before.write-tested-segmentation.ensures.writable a.identifier (filled []) blanks-length (sym c.before.before.before.before.before.before.refusal-with-no-components.ensures ∙ c.before.before.before.before.before.if2.false)
-    (none-listed _ (filled []) (sym c.before.before.before.before.before.before.before.before.count-in-segmentation.ensures ∙ omega (arith, c.before.before.before.before.before.before.before.if1.false)))
+    c.before.before.write-tested-segmentation.ensures.writable a.identifier (filled []) blanks_length (sym c.before.before.before.before.before.before.refusal-with-no-components.ensures ∙ c.before.before.before.before.before.if2.false)
+    (none_listed _ (filled []) (sym c.before.before.before.before.before.before.before.before.count-in-segmentation.ensures ∙ omega (arith, c.before.before.before.before.before.before.before.if1.false)))
 
-pub write-segmentation-without-components-spec : {M : Type 1} → statement M
-write-segmentation-without-components-spec =
+pub write_segmentation_without_components_spec : {M : Type 1} → statement M
+write_segmentation_without_components_spec =
     tie.close
     (tie.spec
     count-in-segmentation-requires
@@ -68,10 +68,10 @@ write-segmentation-without-components-spec =
     same_length
     returns
     refusal-with-no-components-requires
-    returns-2
+    returns_2
     sub-write-tested-segmentation
     part-write-tested-segmentation-start
     part-write-tested-segmentation-end
     write-tested-segmentation-requires
     same-length-2
-    returns-3)
+    returns_3)

@@ -2,7 +2,7 @@
 use mathlib.Core.Path.{refl, sym}
 use native.Mathlib.Omega.{arith}
 use borrow.Author.Rules.{rules}
-use Rattle.descriptor_writer.proofs.Segmenting.{segment-long, segment-short, segment-writes}
+use Rattle.descriptor_writer.proofs.Segmenting.{segment_long, segment_short, segment_writes}
 use Rattle.descriptor_writer.proofs.segmentation.write_tested_segmentation.Statement.{statement}
 use Rattle.descriptor_writer.proofs.segmentation.write_tested_segmentation.Tie as tie
 
@@ -12,15 +12,15 @@ size-of-requires c κs = search rules
 returns : tie.Need-returns
 returns c =
     let a = c.before.before.before.before.before.args in
-    record { writable = λ id cs many z e. segment-long a.x id (record { components = cs; eidr = a.eidr }) a.lent.now a.target.now 0 (sym z) refl (omega (arith, c.before.size_of.ensures.1)) _ c.before.size_of.ensures.0 c.if1.true }
+    record { writable = λ id cs many z e. segment_long a.x id (record { components = cs; eidr = a.eidr }) a.lent.now a.target.now 0 (sym z) refl (omega (arith, c.before.size_of.ensures.1)) _ c.before.size_of.ensures.0 c.if1.true }
 
 add-if2 : tie.Need-overflow-add-if2
 add-if2 c = search rules
 
-returns-2 : tie.Need-returns-2
-returns-2 c =
+returns_2 : tie.Need-returns-2
+returns_2 c =
     let a = c.before.before.before.before.before.before.args in
-    record { writable = λ id cs many z e. segment-short a.x id (record { components = cs; eidr = a.eidr }) a.lent.now a.target.now 0 (sym z) refl (omega (arith, c.before.before.size_of.ensures.1)) _ c.before.before.size_of.ensures.0 c.before.if1.false c.if2.true }
+    record { writable = λ id cs many z e. segment_short a.x id (record { components = cs; eidr = a.eidr }) a.lent.now a.target.now 0 (sym z) refl (omega (arith, c.before.before.size_of.ensures.1)) _ c.before.before.size_of.ensures.0 c.before.if1.false c.if2.true }
 
 cuei-requires : tie.Need-cuei-requires
 cuei-requires c κs = search rules
@@ -43,19 +43,19 @@ add-t12 c = search rules
 same_length : tie.Need-same-length
 same_length c = search rules
 
-returns-3 : tie.Need-returns-3
-returns-3 c =
+returns_3 : tie.Need-returns-3
+returns_3 c =
     let a = c.before.before.before.before.before.before.before.before.before.before.before.before.before.before.before.before.args in
-    record { writable = λ id cs many z e. segment-writes a.x id (record { components = cs; eidr = a.eidr }) a.lent.now a.target.now 0 (sym z) refl (omega (arith, c.before.before.before.before.before.before.before.before.before.before.before.before.size_of.ensures.1)) _ c.before.before.before.before.before.before.before.before.before.before.before.before.size_of.ensures.0 c.before.before.before.before.before.before.before.before.before.before.before.if1.false _ _ _ _ _ c.before.before.before.before.before.before.before.before.before.before.if2.false c.before.before.before.before.before.before.before.before.before.cuei.ensures c.before.before.before.before.before.before.store-envelope.ensures (c.before.before.store-segmentation.ensures _ e) }
+    record { writable = λ id cs many z e. segment_writes a.x id (record { components = cs; eidr = a.eidr }) a.lent.now a.target.now 0 (sym z) refl (omega (arith, c.before.before.before.before.before.before.before.before.before.before.before.before.size_of.ensures.1)) _ c.before.before.before.before.before.before.before.before.before.before.before.before.size_of.ensures.0 c.before.before.before.before.before.before.before.before.before.before.before.if1.false _ _ _ _ _ c.before.before.before.before.before.before.before.before.before.before.if2.false c.before.before.before.before.before.before.before.before.before.cuei.ensures c.before.before.before.before.before.before.store-envelope.ensures (c.before.before.store-segmentation.ensures _ e) }
 
-pub write-tested-segmentation-spec : {M : Type 1} → statement M
-write-tested-segmentation-spec =
+pub write_tested_segmentation_spec : {M : Type 1} → statement M
+write_tested_segmentation_spec =
     tie.close
     (tie.spec
     size-of-requires
     returns
     add-if2
-    returns-2
+    returns_2
     cuei-requires
     add-store-envelope
     slice-aggregate-store-envelope
@@ -63,4 +63,4 @@ write-tested-segmentation-spec =
     store-segmentation-requires
     add-t12
     same_length
-    returns-3)
+    returns_3)

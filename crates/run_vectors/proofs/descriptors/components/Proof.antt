@@ -46,8 +46,8 @@ loop-again c = search rules
 returns : tie.Need-returns invariant-loop decreases-loop
 returns c = search rules
 
-pub components-spec : {M : Type 1} → statement M
-components-spec =
+pub components_spec : {M : Type 1} → statement M
+components_spec =
     tie.close
     (tie.spec
     invariant-loop

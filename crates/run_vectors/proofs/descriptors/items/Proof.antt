@@ -41,11 +41,11 @@ loop-less c = search rules
 loop-again : tie.Need-loop-preserved invariant-loop decreases-loop
 loop-again c = search rules
 
-returns-2 : tie.Need-returns-2 invariant-loop decreases-loop
-returns-2 c = search rules
+returns_2 : tie.Need-returns-2 invariant-loop decreases-loop
+returns_2 c = search rules
 
-pub items-spec : {M : Type 1} → statement M
-items-spec =
+pub items_spec : {M : Type 1} → statement M
+items_spec =
     tie.close
     (tie.spec
     invariant-loop
@@ -60,4 +60,4 @@ items-spec =
     returns
     loop-less
     loop-again
-    returns-2)
+    returns_2)

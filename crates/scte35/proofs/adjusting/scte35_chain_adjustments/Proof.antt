@@ -12,5 +12,5 @@ flat-adjustment-requires c κs = search rules
 returns : tie.Need-returns
 returns c = rw (c.flat-adjustment.ensures, c.before.chain.ensures)
 
-pub scte35-chain-adjustments-spec : {M : Type 1} → statement M
-scte35-chain-adjustments-spec = tie.close (tie.spec chain-requires flat-adjustment-requires returns)
+pub scte35_chain_adjustments_spec : {M : Type 1} → statement M
+scte35_chain_adjustments_spec = tie.close (tie.spec chain-requires flat-adjustment-requires returns)

@@ -15,5 +15,5 @@ flat-moved-requires c κs = search rules
 returns : tie.Need-returns
 returns c = rw (c.flat-moved.ensures, c.before.adjust.ensures, c.before.before.time-from.ensures)
 
-pub scte35-move-time-spec : {M : Type 1} → statement M
-scte35-move-time-spec = tie.close (tie.spec time-from-requires adjust-requires flat-moved-requires returns)
+pub scte35_move_time_spec : {M : Type 1} → statement M
+scte35_move_time_spec = tie.close (tie.spec time-from-requires adjust-requires flat-moved-requires returns)

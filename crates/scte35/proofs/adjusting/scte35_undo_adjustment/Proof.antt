@@ -12,5 +12,5 @@ flat-adjustment-requires c κs = search rules
 returns : tie.Need-returns
 returns c = rw (c.flat-adjustment.ensures, c.before.undo.ensures)
 
-pub scte35-undo-adjustment-spec : {M : Type 1} → statement M
-scte35-undo-adjustment-spec = tie.close (tie.spec undo-requires flat-adjustment-requires returns)
+pub scte35_undo_adjustment_spec : {M : Type 1} → statement M
+scte35_undo_adjustment_spec = tie.close (tie.spec undo-requires flat-adjustment-requires returns)

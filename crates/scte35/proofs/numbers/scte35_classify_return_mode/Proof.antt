@@ -1,8 +1,8 @@
 -- `scte35::numbers::scte35_classify_return_mode` meets its contract.
 use mathlib.Core.Path.{◌≡◌, ap, sym, ◌∙◌}
 use borrow.Author.Rules.{rules}
-use Rattle.names.specs.Flags.{returnFlag, returnAnswer}
-use Rattle.scte35.proofs.Names.{of-gives, of-refuses}
+use Rattle.names.specs.Flags.{return_flag, return_answer}
+use Rattle.scte35.proofs.Names.{of_gives, of_refuses}
 use Rattle.scte35.proofs.numbers.scte35_classify_return_mode.Statement.{statement}
 use Rattle.scte35.proofs.numbers.scte35_classify_return_mode.Tie as tie
 
@@ -25,13 +25,13 @@ refused-requires : tie.Need-refused-requires
 refused-requires c κs = search rules
 
 returns : tie.Need-returns
-returns c = c.classed.ensures ∙ of-gives returnFlag _ _ _ c.before.flag.ensures (ap returnAnswer (sym c.before.before.before.x.given.1) ∙ c.before.before.before.before.before.from-flag.ensures)
+returns c = c.classed.ensures ∙ of_gives return_flag _ _ _ c.before.flag.ensures (ap return_answer (sym c.before.before.before.x.given.1) ∙ c.before.before.before.before.before.from-flag.ensures)
 
-returns-2 : tie.Need-returns-2
-returns-2 c = c.refused.ensures ∙ of-refuses returnFlag _ (ap returnAnswer (sym c.before.enum_told.given.1) ∙ c.before.before.before.from-flag.ensures)
+returns_2 : tie.Need-returns-2
+returns_2 c = c.refused.ensures ∙ of_refuses return_flag _ (ap return_answer (sym c.before.enum_told.given.1) ∙ c.before.before.before.from-flag.ensures)
 
-pub scte35-classify-return-mode-spec : {M : Type 1} → statement M
-scte35-classify-return-mode-spec =
+pub scte35_classify_return_mode_spec : {M : Type 1} → statement M
+scte35_classify_return_mode_spec =
     tie.close
     (tie.spec
     from-flag-requires
@@ -41,4 +41,4 @@ scte35-classify-return-mode-spec =
     enum_told
     refused-requires
     returns
-    returns-2)
+    returns_2)

@@ -3,10 +3,10 @@ use mathlib.Core.Path.{◌≡◌, ap, sym, ◌∙◌}
 use denote.Enum.Declared.{tag_of}
 use borrow.Author.Rules.{rules}
 use Rattle.names.specs.declared.segmentation.SegmentationTypeId.TheVariants.{Reserved}
-use Rattle.names.specs.Segmentation.{segmentations, segmentationTypeOf}
+use Rattle.names.specs.Segmentation.{segmentations, segmentation_type_of}
 use Rattle.names.specs.contracts.segmentation.SegmentationTypeId.{the_type}
 use Rattle.names.proofs.Segmentations.{sound}
-use Rattle.scte35.proofs.Names.{of-name, of_number}
+use Rattle.scte35.proofs.Names.{of_name, of_number}
 use Rattle.scte35.proofs.numbers.scte35_classify_segmentation_type.Statement.{statement}
 use Rattle.scte35.proofs.numbers.scte35_classify_segmentation_type.Tie as tie
 
@@ -26,15 +26,15 @@ classed-requires-2 : tie.Need-classed-requires-2
 classed-requires-2 c κs = search rules
 
 returns : tie.Need-returns
-unfolding segmentationTypeOf
+unfolding segmentation_type_of
 returns c = c.classed.ensures ∙ of_number segmentations c.before.before.before.before.before.args.n _ (Reserved c.before.before.x.given.0.0) c.before.before.before.before.from-id.ensures c.before.before.x.given.1
 
-returns-2 : tie.Need-returns-2
-unfolding segmentationTypeOf
-returns-2 c = c.classed2.ensures ∙ of-name segmentations (tag_of the_type) sound c.before.before.before.before.args.n _ c.before.before.before.from-id.ensures c.before.before.match.keys2 _ c.before.id.ensures
+returns_2 : tie.Need-returns-2
+unfolding segmentation_type_of
+returns_2 c = c.classed2.ensures ∙ of_name segmentations (tag_of the_type) sound c.before.before.before.before.args.n _ c.before.before.before.from-id.ensures c.before.before.match.keys2 _ c.before.id.ensures
 
-pub scte35-classify-segmentation-type-spec : {M : Type 1} → statement M
-scte35-classify-segmentation-type-spec =
+pub scte35_classify_segmentation_type_spec : {M : Type 1} → statement M
+scte35_classify_segmentation_type_spec =
     tie.close
     (tie.spec
     from-id-requires
@@ -43,4 +43,4 @@ scte35-classify-segmentation-type-spec =
     id-requires
     classed-requires-2
     returns
-    returns-2)
+    returns_2)

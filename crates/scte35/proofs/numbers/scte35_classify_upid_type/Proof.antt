@@ -3,10 +3,10 @@ use mathlib.Core.Path.{◌≡◌, ap, sym, ◌∙◌}
 use denote.Enum.Declared.{tag_of}
 use borrow.Author.Rules.{rules}
 use Rattle.names.specs.declared.upid.SegmentationUpidType.TheVariants.{Reserved}
-use Rattle.names.specs.Upid.{upidTypes, upidTypeOf}
+use Rattle.names.specs.Upid.{upid_types, upid_type_of}
 use Rattle.names.specs.contracts.upid.SegmentationUpidType.{the_type}
 use Rattle.names.proofs.Upids.{sound}
-use Rattle.scte35.proofs.Names.{of-name, of_number}
+use Rattle.scte35.proofs.Names.{of_name, of_number}
 use Rattle.scte35.proofs.numbers.scte35_classify_upid_type.Statement.{statement}
 use Rattle.scte35.proofs.numbers.scte35_classify_upid_type.Tie as tie
 
@@ -26,15 +26,15 @@ classed-requires-2 : tie.Need-classed-requires-2
 classed-requires-2 c κs = search rules
 
 returns : tie.Need-returns
-unfolding upidTypeOf
-returns c = c.classed.ensures ∙ of_number upidTypes c.before.before.before.before.before.args.n _ (Reserved c.before.before.x.given.0.0) c.before.before.before.before.from-type.ensures c.before.before.x.given.1
+unfolding upid_type_of
+returns c = c.classed.ensures ∙ of_number upid_types c.before.before.before.before.before.args.n _ (Reserved c.before.before.x.given.0.0) c.before.before.before.before.from-type.ensures c.before.before.x.given.1
 
-returns-2 : tie.Need-returns-2
-unfolding upidTypeOf
-returns-2 c = c.classed2.ensures ∙ of-name upidTypes (tag_of the_type) sound c.before.before.before.before.args.n _ c.before.before.before.from-type.ensures c.before.before.match.keys2 _ c.before.id.ensures
+returns_2 : tie.Need-returns-2
+unfolding upid_type_of
+returns_2 c = c.classed2.ensures ∙ of_name upid_types (tag_of the_type) sound c.before.before.before.before.args.n _ c.before.before.before.from-type.ensures c.before.before.match.keys2 _ c.before.id.ensures
 
-pub scte35-classify-upid-type-spec : {M : Type 1} → statement M
-scte35-classify-upid-type-spec =
+pub scte35_classify_upid_type_spec : {M : Type 1} → statement M
+scte35_classify_upid_type_spec =
     tie.close
     (tie.spec
     from-type-requires
@@ -43,4 +43,4 @@ scte35-classify-upid-type-spec =
     id-requires
     classed-requires-2
     returns
-    returns-2)
+    returns_2)

@@ -2,8 +2,8 @@
 use Prim.Native.Nat.{ℕ}
 use mathlib.Core.List.{List}
 use mathlib.Core.Path.{◌≡◌, ap, ◌∙◌}
-use Rattle.daterange_line.specs.Reading.{read_of, readLater}
-use Rattle.c_daterange.specs.FlatDaterange.{flatDaterange}
+use Rattle.daterange_line.specs.Reading.{read_of, read_later}
+use Rattle.c_daterange.specs.FlatDaterange.{flat_daterange}
 use borrow.Author.Rules.{rules}
 use Rattle.scte35.proofs.playlist.scte35_read_daterange.Statement.{statement}
 use Rattle.scte35.proofs.playlist.scte35_read_daterange.Tie as tie
@@ -25,11 +25,11 @@ returns c =
     let k = c.before.before.before in
     let r = k.before.before in
     let a = r.before.before.before.args in (
-      c.flat-daterange.ensures ∙ ap flatDaterange (k.read-line.ensures.0 ∙ ap (λ (l : List ℕ). read_of l a.target.now) r.rest.ensures),
-      k.read-line.ensures.1 ∙ ap (λ (l : List ℕ). readLater l a.target.now) r.rest.ensures,
+      c.flat-daterange.ensures ∙ ap flat_daterange (k.read-line.ensures.0 ∙ ap (λ (l : List ℕ). read_of l a.target.now) r.rest.ensures),
+      k.read-line.ensures.1 ∙ ap (λ (l : List ℕ). read_later l a.target.now) r.rest.ensures,
     )
 
-pub scte35-read-daterange-spec : {M : Type 1} → statement M
-scte35-read-daterange-spec =
+pub scte35_read_daterange_spec : {M : Type 1} → statement M
+scte35_read_daterange_spec =
     tie.close
     (tie.spec rest-requires read-line-requires flat-daterange-requires same_length returns)

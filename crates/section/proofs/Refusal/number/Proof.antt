@@ -41,21 +41,21 @@ returns : tie.Need-returns
 unfolding number_of
 returns c = rw c.enum_told.given.1
 
-returns-2 : tie.Need-returns-2
+returns_2 : tie.Need-returns-2
 unfolding number_of
-returns-2 c = rw c.enum-told2.given.1
+returns_2 c = rw c.enum-told2.given.1
 
-returns-3 : tie.Need-returns-3
+returns_3 : tie.Need-returns-3
 unfolding number_of
-returns-3 c = rw c.enum-told3.given.1
+returns_3 c = rw c.enum-told3.given.1
 
-returns-4 : tie.Need-returns-4
+returns_4 : tie.Need-returns-4
 unfolding number_of
-returns-4 c = rw c.enum-told4.given.1
+returns_4 c = rw c.enum-told4.given.1
 
-returns-5 : tie.Need-returns-5
+returns_5 : tie.Need-returns-5
 unfolding number_of
-returns-5 c = rw c.enum-told5.given.1
+returns_5 c = rw c.enum-told5.given.1
 
 returns-6 : tie.Need-returns-6
 unfolding number_of
@@ -81,8 +81,8 @@ returns-11 : tie.Need-returns-11
 unfolding number_of
 returns-11 c = rw c.enum-told11.given.1
 
-pub number-spec : {M : Type 1} → statement M
-number-spec =
+pub number_spec : {M : Type 1} → statement M
+number_spec =
     tie.close
     (tie.spec
     enum_told
@@ -97,10 +97,10 @@ number-spec =
     enum-told-10
     enum-told-11
     returns
-    returns-2
-    returns-3
-    returns-4
-    returns-5
+    returns_2
+    returns_3
+    returns_4
+    returns_5
     returns-6
     returns-7
     returns-8

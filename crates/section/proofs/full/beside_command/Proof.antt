@@ -39,21 +39,21 @@ blanks-requires-4 c κs = search rules
 returns : tie.Need-returns
 returns c = search rules
 
-returns-2 : tie.Need-returns-2
+returns_2 : tie.Need-returns-2
 unfolding listed_of
-returns-2 c = rw c.before.before.enum-told2.given.1 (ap (λ (l : ListedCommand). l.components) c.before.read-components.ensures)
+returns_2 c = rw c.before.before.enum-told2.given.1 (ap (λ (l : ListedCommand). l.components) c.before.read-components.ensures)
 
-returns-3 : tie.Need-returns-3
-returns-3 c = search rules
+returns_3 : tie.Need-returns-3
+returns_3 c = search rules
 
-returns-4 : tie.Need-returns-4
-returns-4 c = search rules
+returns_4 : tie.Need-returns-4
+returns_4 c = search rules
 
-returns-5 : tie.Need-returns-5
-returns-5 c = search rules
+returns_5 : tie.Need-returns-5
+returns_5 c = search rules
 
-pub beside-command-spec : {M : Type 1} → statement M
-beside-command-spec =
+pub beside_command_spec : {M : Type 1} → statement M
+beside_command_spec =
     tie.close
     (tie.spec
     enum_told
@@ -67,7 +67,7 @@ beside-command-spec =
     enum-told-5
     blanks-requires-4
     returns
-    returns-2
-    returns-3
-    returns-4
-    returns-5)
+    returns_2
+    returns_3
+    returns_4
+    returns_5)

@@ -1,7 +1,7 @@
 -- `section::full::read_full_section`: the command's bytes are those of the section's own view.
 use mathlib.Core.Path.{refl, ap, sym, ◌∙◌}
-use Rattle.section.specs.Full.{besideCommand}
-use Rattle.section.proofs.FullReadings.{full_is, full-refused}
+use Rattle.section.specs.Full.{beside_command}
+use Rattle.section.proofs.FullReadings.{full_is, full_refused}
 use borrow.Author.Rules.{rules}
 use Rattle.section.proofs.full.read_full_section.Statement.{statement}
 use Rattle.section.proofs.full.read_full_section.Tie as tie
@@ -29,18 +29,18 @@ returns c =
     let told = c.before in
     let section = told.before.before in
     let a = section.before.before.args in
-    full-refused a.section.now _ section.read-section.ensures _ told.enum_told.given.1 _ c.blanks.ensures
+    full_refused a.section.now _ section.read-section.ensures _ told.enum_told.given.1 _ c.blanks.ensures
 
-returns-2 : tie.Need-returns-2
-returns-2 c =
+returns_2 : tie.Need-returns-2
+returns_2 c =
     let view = c.before in
     let read = view.before.before.before in
     let section = read.before.before in
     let a = section.before.before.args in
-    full_is a.section.now _ (sym read.read.given.1 ∙ section.read-section.ensures) _ refl _ (c.beside-command.ensures ∙ ap (besideCommand read.read.given.0.0.command) view.view.ensures)
+    full_is a.section.now _ (sym read.read.given.1 ∙ section.read-section.ensures) _ refl _ (c.beside-command.ensures ∙ ap (beside_command read.read.given.0.0.command) view.view.ensures)
 
-pub read-full-section-spec : {M : Type 1} → statement M
-read-full-section-spec =
+pub read_full_section_spec : {M : Type 1} → statement M
+read_full_section_spec =
     tie.close
     (tie.spec
     read-section-requires
@@ -50,4 +50,4 @@ read-full-section-spec =
     view-requires
     beside-command-requires
     returns
-    returns-2)
+    returns_2)

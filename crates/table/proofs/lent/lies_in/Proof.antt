@@ -5,7 +5,7 @@ use lib.ListN.{length}
 use native.Mathlib.Omega.{arith}
 use borrow.Author.Tests.{lt-leb}
 use borrow.Author.Rules.{rules}
-use Rattle.table.proofs.Lists.{leb-sum}
+use Rattle.table.proofs.Lists.{leb_sum}
 use Rattle.table.proofs.lent.lies_in.Statement.{statement}
 use Rattle.table.proofs.lent.lies_in.Tie as tie
 
@@ -17,10 +17,10 @@ returns c =
 sub-result : tie.Need-overflow-sub-result
 sub-result c = search rules
 
-returns-2 : tie.Need-returns-2
-returns-2 c =
+returns_2 : tie.Need-returns-2
+returns_2 c =
     let a = c.before.args in
-    leb-sum a.v.at a.v.len (length a.lent.now) (omega arith)
+    leb_sum a.v.at a.v.len (length a.lent.now) (omega arith)
 
-pub lies-in-spec : {M : Type 1} → statement M
-lies-in-spec = tie.close (tie.spec returns sub-result returns-2)
+pub lies_in_spec : {M : Type 1} → statement M
+lies_in_spec = tie.close (tie.spec returns sub-result returns_2)

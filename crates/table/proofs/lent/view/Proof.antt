@@ -28,8 +28,8 @@ returns c =
     let b = c.before.before.lies_in in
     rw (← b.ensures, not-true b.result c.before.if1.true)
 
-add-end : tie.Need-overflow-add-end
-add-end c =
+add_end : tie.Need-overflow-add-end
+add_end c =
     let v = c.before.before.before.before.args.v in
     let l = c.before.before.before.before.args.lent.now in
     let h : v.at + v.len ≤ length l = leb-true (v.at + v.len) (length l) (sym c.before.before.lies_in.ensures ∙ not-false _ c.before.if1.false) in
@@ -48,14 +48,14 @@ part-result-end-2 c =
     let h : v.at + v.len ≤ length l = leb-true (v.at + v.len) (length l) (sym c.before.before.lies_in.ensures ∙ not-false _ c.before.if1.false) in
     omega arith
 
-returns-2 : tie.Need-returns-2
+returns_2 : tie.Need-returns-2
 unfolding viewed
-returns-2 c =
+returns_2 c =
     let e = c.before.before in
     rw (← e.before.lies_in.ensures, not-false e.before.lies_in.result e.if1.false, add-sub_cancel_left)
 
-pub view-spec : {M : Type 1} → statement M
-view-spec =
+pub view_spec : {M : Type 1} → statement M
+view_spec =
     tie.close
     (tie.spec
     lies-in-requires
@@ -63,8 +63,8 @@ view-spec =
     part-result-start
     part-result-end
     returns
-    add-end
+    add_end
     sub-result-2
     part-result-start-2
     part-result-end-2
-    returns-2)
+    returns_2)

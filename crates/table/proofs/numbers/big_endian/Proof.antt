@@ -6,7 +6,7 @@ use native.Mathlib.Omega.{arith}
 use lib.ListN.{length, get_or}
 use lib.Pow.{pow_pos}
 use Rattle.table.specs.Bits.{bits_of, field}
-use Rattle.table.proofs.Reading.{turn_byte, turn-none}
+use Rattle.table.proofs.Reading.{turn_byte, turn_none}
 use Rattle.table.proofs.numbers.big_endian.Statement.{statement}
 use Rattle.table.proofs.numbers.big_endian.Tie as tie
 
@@ -34,7 +34,7 @@ returns : tie.Need-returns invariant-loop decreases-loop
 returns c =
     let l = c.before.before in
     let a = l.before.before.args in
-    turn-none a.s.now (a.at * 8) (a.n * 8) (l.loop.ahead * 8) l.loop.i l.loop.v (omega arith) c.if1.true (omega arith) l.loop.invariant.2
+    turn_none a.s.now (a.at * 8) (a.n * 8) (l.loop.ahead * 8) l.loop.i l.loop.v (omega arith) c.if1.true (omega arith) l.loop.invariant.2
 
 shared-slice-read-wide : tie.Need-shared-slice-read-wide invariant-loop decreases-loop
 shared-slice-read-wide c = omega arith
@@ -61,15 +61,15 @@ loop-again c =
     let z : n * 8 - (l.loop.ahead - 1) * 8 ≡ n * 8 - l.loop.ahead * 8 + 8 = omega arith in
     (omega arith, omega arith, rw z (read c))
 
-returns-2 : tie.Need-returns-2 invariant-loop decreases-loop
-returns-2 c =
+returns_2 : tie.Need-returns-2 invariant-loop decreases-loop
+returns_2 c =
     let l = c.before in
     let n = l.before.before.args.n in
     let z : n * 8 - l.loop.ahead * 8 ≡ n * 8 = omega arith in
     rw z at l.loop.invariant.2
 
-pub big-endian-spec : {M : Type 1} → statement M
-big-endian-spec =
+pub big_endian_spec : {M : Type 1} → statement M
+big_endian_spec =
     tie.close
     (tie.spec
     invariant-loop
@@ -83,4 +83,4 @@ big-endian-spec =
     sub-ahead
     loop-less
     loop-again
-    returns-2)
+    returns_2)

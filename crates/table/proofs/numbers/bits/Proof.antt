@@ -6,7 +6,7 @@ use native.Mathlib.Omega.{arith}
 use lib.ListN.{length, get_or}
 use lib.Pow.{pow_pos}
 use Rattle.table.specs.Bits.{bits_of, field}
-use Rattle.table.proofs.Reading.{field-none, mask, turn-bits, turn-none}
+use Rattle.table.proofs.Reading.{field_none, mask, turn_bits, turn_none}
 use Rattle.table.proofs.numbers.bits.Statement.{statement}
 use Rattle.table.proofs.numbers.bits.Tie as tie
 
@@ -20,15 +20,15 @@ decreases-loop s i j w v₀ at₀ behind₀ ahead₀ v at behind ahead = ahead
 returns : tie.Need-returns invariant-loop decreases-loop
 returns c =
     let a = c.before.before.args in
-    ap (λ (x : ℕ). x % 2 ^ 64) (field-none a.s.now (a.i * 8 + a.j) a.w (omega arith))
+    ap (λ (x : ℕ). x % 2 ^ 64) (field_none a.s.now (a.i * 8 + a.j) a.w (omega arith))
 
 sub-if2 : tie.Need-overflow-sub-if2 invariant-loop decreases-loop
 sub-if2 c = omega arith
 
-returns-2 : tie.Need-returns-2 invariant-loop decreases-loop
-returns-2 c =
+returns_2 : tie.Need-returns-2 invariant-loop decreases-loop
+returns_2 c =
     let a = c.before.before.before.args in
-    ap (λ (x : ℕ). x % 2 ^ 64) (field-none a.s.now (a.i * 8 + a.j) a.w (omega arith))
+    ap (λ (x : ℕ). x % 2 ^ 64) (field_none a.s.now (a.i * 8 + a.j) a.w (omega arith))
 
 add_at : tie.Need-overflow-add-at invariant-loop decreases-loop
 add_at c = omega arith
@@ -42,7 +42,7 @@ read : (c : tie.After-wide invariant-loop decreases-loop) →
 read c =
     let l = c.before.before.before.before.before in
     let a = l.before.before.before.before.args in
-    turn-bits a.s.now (a.i * 8 + a.j) (a.w - l.loop.ahead) l.loop.at l.loop.v c.wide.result (omega arith)
+    turn_bits a.s.now (a.i * 8 + a.j) (a.w - l.loop.ahead) l.loop.at l.loop.v c.wide.result (omega arith)
     (c.before.shared-slice-known2.given l.loop.at).fits c.wide.ensures.0 l.loop.invariant.3 l.loop.behind c.before.before.least.result (omega arith) l.loop.invariant.2
 
 loop-holds : tie.Need-loop-init invariant-loop decreases-loop
@@ -51,11 +51,11 @@ loop-holds c =
     let z : a.w - a.w ≡ 0 = omega arith in
     (omega arith, omega arith, omega arith, rw z)
 
-returns-3 : tie.Need-returns-3 invariant-loop decreases-loop
-returns-3 c =
+returns_3 : tie.Need-returns-3 invariant-loop decreases-loop
+returns_3 c =
     let l = c.before.before in
     let a = l.before.before.before.before.args in
-    turn-none a.s.now (a.i * 8 + a.j) a.w l.loop.ahead l.loop.at l.loop.v l.loop.invariant.0 c.if3.true (omega arith) l.loop.invariant.3
+    turn_none a.s.now (a.i * 8 + a.j) a.w l.loop.ahead l.loop.at l.loop.v l.loop.invariant.0 c.if3.true (omega arith) l.loop.invariant.3
 
 sub-least : tie.Need-overflow-sub-least invariant-loop decreases-loop
 sub-least c = omega arith
@@ -113,25 +113,25 @@ loop-again c =
     let z : a.w - (l.loop.ahead - n) ≡ a.w - l.loop.ahead + n = omega arith in
     (omega arith, omega arith, omega arith, rw z (read c))
 
-returns-4 : tie.Need-returns-4 invariant-loop decreases-loop
-returns-4 c =
+returns_4 : tie.Need-returns-4 invariant-loop decreases-loop
+returns_4 c =
     let l = c.before in
     let w = l.before.before.before.before.args.w in
     let z : w - l.loop.ahead ≡ w = omega arith in
     rw z at l.loop.invariant.3
 
-pub bits-spec : {M : Type 1} → statement M
-bits-spec =
+pub bits_spec : {M : Type 1} → statement M
+bits_spec =
     tie.close
     (tie.spec
     invariant-loop
     decreases-loop
     returns
     sub-if2
-    returns-2
+    returns_2
     add_at
     loop-holds
-    returns-3
+    returns_3
     sub-least
     least-requires
     shl-v
@@ -149,4 +149,4 @@ bits-spec =
     add-behind
     loop-less
     loop-again
-    returns-4)
+    returns_4)

@@ -3,7 +3,7 @@ use Prim.Native.Nat.{ℕ, ◌+◌, ◌*◌, ◌%◌}
 use mathlib.Core.Path.{◌≡◌, sym, ◌∙◌}
 use native.Mathlib.Omega.{arith}
 use borrow.Author.Rules.{rules}
-use Rattle.table.proofs.Reading.{field-exact, field-none, five-bytes}
+use Rattle.table.proofs.Reading.{field_exact, field_none, five_bytes}
 use Rattle.table.proofs.numbers.time33.Statement.{statement}
 use Rattle.table.proofs.numbers.time33.Tie as tie
 
@@ -11,7 +11,7 @@ use Rattle.table.proofs.numbers.time33.Tie as tie
 returns : tie.Need-returns
 returns c =
     let a = c.before.before.args in
-    field-none a.s.now (a.at * 8 + 7) 33 (omega arith)
+    field_none a.s.now (a.at * 8 + 7) 33 (omega arith)
 
 -- src/numbers.rt:88:8
 sub-if2 : tie.Need-overflow-sub-if2
@@ -22,10 +22,10 @@ bits-requires : tie.Need-bits-requires
 bits-requires c κs = search rules
 
 -- src/numbers.rt:89:9
-returns-2 : tie.Need-returns-2
-returns-2 c =
+returns_2 : tie.Need-returns-2
+returns_2 c =
     let a = c.before.before.before.before.args in
-    c.bits.ensures ∙ field-exact a.s.now (a.at * 8 + 7) 33 (omega arith)
+    c.bits.ensures ∙ field_exact a.s.now (a.at * 8 + 7) 33 (omega arith)
 
 -- src/numbers.rt:91:10
 shared-slice-read-wide : tie.Need-shared-slice-read-wide
@@ -116,24 +116,24 @@ add-result-4 : tie.Need-overflow-add-result-4
 add-result-4 c = search rules
 
 -- src/numbers.rt:82:1
-returns-3 : tie.Need-returns-3
-returns-3 c =
+returns_3 : tie.Need-returns-3
+returns_3 c =
     let w4 = c.before.before in
     let w3 = w4.before.before in
     let w2 = w3.before.before in
     let w1 = w2.before.before in
     let a = w1.before.before.before.before.before.args in
     rw (w1.wide.ensures.0, w2.wide2.ensures.0, w3.wide3.ensures.0, w4.wide4.ensures.0, c.wide5.ensures.0)
-    (five-bytes a.s.now a.at (omega arith) (λ (j : ℕ). (w1.before.shared-slice-known2.given j).fits))
+    (five_bytes a.s.now a.at (omega arith) (λ (j : ℕ). (w1.before.shared-slice-known2.given j).fits))
 
-pub time33-spec : {M : Type 1} → statement M
-time33-spec =
+pub time33_spec : {M : Type 1} → statement M
+time33_spec =
     tie.close
     (tie.spec
     returns
     sub-if2
     bits-requires
-    returns-2
+    returns_2
     shared-slice-read-wide
     wide-requires
     mul-result
@@ -156,4 +156,4 @@ time33-spec =
     shared-slice-read-wide-5
     wide-requires-5
     add-result-4
-    returns-3)
+    returns_3)

@@ -6,16 +6,16 @@ use native.Mathlib.Nat.{div-one}
 use native.Mathlib.Omega.{arith}
 use lib.ListN.{length}
 use lib.Pow.{shr-shr}
-use Rattle.table.specs.Bits.{bigEndian}
+use Rattle.table.specs.Bits.{big_endian}
 use Rattle.table.specs.Lent.{stored}
-use Rattle.table.proofs.Bits.{length-bigEndian}
-use Rattle.table.proofs.Stores.{stored-none, stored-nil, stored-front, length-stored}
+use Rattle.table.proofs.Bits.{length_big_endian}
+use Rattle.table.proofs.Stores.{stored_none, stored_nil, stored_front, length_stored}
 use Rattle.table.proofs.store.put_number.Statement.{statement}
 use Rattle.table.proofs.store.put_number.Tie as tie
 
 abbrev invariant-loop : tie.invariant-loop
 invariant-loop out₀ at n v high₀ i₀ out high i =
-    (i ≤ n) × (high ≡ v / 2 ^ ((n - i) * 8)) × (out ≡ stored out₀ (at + i) (bigEndian (n - i) v))
+    (i ≤ n) × (high ≡ v / 2 ^ ((n - i) * 8)) × (out ≡ stored out₀ (at + i) (big_endian (n - i) v))
 
 abbrev decreases-loop : tie.decreases-loop
 decreases-loop out₀ at n v high₀ i₀ out high i = i
@@ -23,26 +23,26 @@ decreases-loop out₀ at n v high₀ i₀ out high i = i
 returns : tie.Need-returns invariant-loop decreases-loop
 returns c =
     let a = c.before.args in
-    sym (stored-none a.out.now a.at (bigEndian a.n a.v) (omega (arith, length-bigEndian a.n a.v)))
+    sym (stored_none a.out.now a.at (big_endian a.n a.v) (omega (arith, length_big_endian a.n a.v)))
 
 sub-if2 : tie.Need-overflow-sub-if2 invariant-loop decreases-loop
 sub-if2 c = omega arith
 
-returns-2 : tie.Need-returns-2 invariant-loop decreases-loop
-returns-2 c =
+returns_2 : tie.Need-returns-2 invariant-loop decreases-loop
+returns_2 c =
     let a = c.before.before.args in
-    sym (stored-none a.out.now a.at (bigEndian a.n a.v) (omega (arith, length-bigEndian a.n a.v)))
+    sym (stored_none a.out.now a.at (big_endian a.n a.v) (omega (arith, length_big_endian a.n a.v)))
 
 kept : (c : tie.At-loop invariant-loop decreases-loop) → length c.loop.out ≡ length c.before.before.before.args.out.now
 kept c =
     let a = c.before.before.before.args in
-    ap length c.loop.invariant.2 ∙ length-stored a.out.now (a.at + c.loop.i) (bigEndian (a.n - c.loop.i) a.v)
+    ap length c.loop.invariant.2 ∙ length_stored a.out.now (a.at + c.loop.i) (big_endian (a.n - c.loop.i) a.v)
 
 loop-holds : tie.Need-loop-init invariant-loop decreases-loop
 loop-holds c =
     let a = c.before.before.args in
     let z : a.n - a.n ≡ 0 = omega arith in
-    (omega arith, rw z (sym (div-one a.v)), rw z (sym (stored-nil a.out.now (a.at + a.n))))
+    (omega arith, rw z (sym (div-one a.v)), rw z (sym (stored_nil a.out.now (a.at + a.n))))
 
 sub-i : tie.Need-overflow-sub-i invariant-loop decreases-loop
 sub-i c = omega arith
@@ -69,14 +69,14 @@ loop-again c =
     let e : suc j * 8 ≡ j * 8 + 8 = omega arith in
     let o : a.at + (i - 1) + 1 ≡ a.at + i = omega arith in
     let h = l.loop.invariant.1 in
-    let f = stored-front a.out.now (a.at + (i - 1)) (a.v / 2 ^ (j * 8) % 256) (bigEndian j a.v) (omega (arith, length-bigEndian j a.v)) in
+    let f = stored_front a.out.now (a.at + (i - 1)) (a.v / 2 ^ (j * 8) % 256) (big_endian j a.v) (omega (arith, length_big_endian j a.v)) in
     (omega arith, rw (t, e, h) (shr-shr a.v (j * 8) 8), rw (t, l.loop.invariant.2, h) (rw o at f))
 
 same_length : tie.Need-same-length invariant-loop decreases-loop
 same_length c = kept c.before
 
-returns-3 : tie.Need-returns-3 invariant-loop decreases-loop
-returns-3 c =
+returns_3 : tie.Need-returns-3 invariant-loop decreases-loop
+returns_3 c =
     let l = c.before in
     let a = l.before.before.before.args in
     let z : l.loop.i ≡ 0 = omega arith in
@@ -84,15 +84,15 @@ returns-3 c =
     let o : a.at + 0 ≡ a.at = omega arith in
     l.loop.invariant.2 ∙ rw (z, n, o)
 
-pub put-number-spec : {M : Type 1} → statement M
-put-number-spec =
+pub put_number_spec : {M : Type 1} → statement M
+put_number_spec =
     tie.close
     (tie.spec
     invariant-loop
     decreases-loop
     returns
     sub-if2
-    returns-2
+    returns_2
     loop-holds
     sub-i
     cast-out
@@ -101,4 +101,4 @@ put-number-spec =
     loop-less
     loop-again
     same_length
-    returns-3)
+    returns_3)

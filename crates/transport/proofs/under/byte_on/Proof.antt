@@ -3,7 +3,7 @@ use native.Mathlib.Omega.{arith}
 use mathlib.Core.Path.{sym, ◌∙◌}
 use lib.ListN.{take, drop, get_or-append}
 use lib.Seq.{length-take-le, get_or-take}
-use Rattle.transport.proofs.Gathered.{byte-behind}
+use Rattle.transport.proofs.Gathered.{byte_behind}
 use borrow.Author.Rules.{rules}
 use Rattle.transport.proofs.under.byte_on.Statement.{statement}
 use Rattle.transport.proofs.under.byte_on.Tie as tie
@@ -20,9 +20,9 @@ add-byte c = search rules
 byte-requires-2 : tie.Need-byte-requires-2
 byte-requires-2 c κs = search rules
 
-returns-2 : tie.Need-returns-2
-returns-2 c = let a = c.before.before.before.before.args in c.byte2.ensures ∙ sym (byte-behind a.buffer.now a.packet.now a.held a.at a.i (omega arith) (omega arith))
+returns_2 : tie.Need-returns-2
+returns_2 c = let a = c.before.before.before.before.args in c.byte2.ensures ∙ sym (byte_behind a.buffer.now a.packet.now a.held a.at a.i (omega arith) (omega arith))
 
-pub byte-on-spec : {M : Type 1} → statement M
-byte-on-spec =
-    tie.close (tie.spec byte-requires returns add-byte byte-requires-2 returns-2)
+pub byte_on_spec : {M : Type 1} → statement M
+byte_on_spec =
+    tie.close (tie.spec byte-requires returns add-byte byte-requires-2 returns_2)

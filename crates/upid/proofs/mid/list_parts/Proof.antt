@@ -9,31 +9,31 @@ use borrow.Author.Rules.{rules}
 use Rattle.upid.specs.Upid.{list_of, listed}
 use Rattle.upid.specs.Private.{grown, Open, pending}
 use Rattle.upid.specs.declared.PartList.{PartList}
-use Rattle.upid.proofs.Laws.{list-plain, accepted-mid}
-use Rattle.upid.proofs.Lister.{open-first, part-complete, closed, passed, entered, begun, store, ended}
+use Rattle.upid.proofs.Laws.{list_plain, accepted_mid}
+use Rattle.upid.proofs.Lister.{open_first, part_complete, closed, passed, entered, begun, store, ended}
 use Rattle.upid.proofs.mid.list_parts.Statement.{statement}
 use Rattle.upid.proofs.mid.list_parts.Reads.{Pre, Post}
 use Rattle.upid.proofs.mid.list_parts.Lts as lts
-use Rattle.upid.proofs.mid.blank.Reads as blank-reads
-use Rattle.table.proofs.numbers.size.Reads as size-reads
-use Rattle.upid.proofs.plain.reported.Reads as reported-reads
+use Rattle.upid.proofs.mid.blank.Reads as blank_reads
+use Rattle.table.proofs.numbers.size.Reads as size_reads
+use Rattle.upid.proofs.plain.reported.Reads as reported_reads
 use Rattle.upid.proofs.mid.list_parts.Tie as tie
 
 abbrev invariant-walk : tie.invariant-walk
-invariant-walk upid-type s out₀ ends₀ level₀ at₀ out ends level at =
+invariant-walk upid_type_number s out₀ ends₀ level₀ at₀ out ends level at =
     (at ≤ length s)
     × (2 * level ≤ at + 2)
     × (2 * out.count ≤ at)
     × Open s ends level at
-    × (listed (list_of upid-type 1 0 s) ≡ grown out (pending s ends level at))
+    × (listed (list_of upid_type_number 1 0 s) ≡ grown out (pending s ends level at))
     × (length ends ≡ 128)
 
 abbrev decreases-walk : tie.decreases-walk
-decreases-walk upid-type s out₀ ends₀ level₀ at₀ out ends level at = 2 * (length s - at) + level
+decreases-walk upid_type_number s out₀ ends₀ level₀ at₀ out ends level at = 2 * (length s - at) + level
 
 -- where a part is met
 abbrev Met : Type 0
-Met = lts.Else2 (blank-reads.Asked, blank-reads.Learnt, size-reads.Asked, size-reads.Learnt, reported-reads.Asked, reported-reads.Learnt) Pre Post invariant-walk decreases-walk
+Met = lts.Else2 (blank_reads.Asked, blank_reads.Learnt, size_reads.Asked, size_reads.Learnt, reported_reads.Asked, reported_reads.Learnt) Pre Post invariant-walk decreases-walk
 
 -- the part is whole, in the innermost MID
 met : (part : Met) →
@@ -46,14 +46,14 @@ met part =
     let turn = size.before in
     let loop = turn.before in
     let start = loop.before.before.before.before in
-    let h = part-complete start.args.s.now loop.walk.ends loop.walk.level loop.walk.at size.size.result turn.walk-test.taken size.size.ensures.0 loop.walk.inv.3 part.if2.left in
+    let h = part_complete start.args.s.now loop.walk.ends loop.walk.level loop.walk.at size.size.result turn.walk-test.taken size.size.ensures.0 loop.walk.inv.3 part.if2.left in
     (h.0, h.1, h.2, start.pre.short)
 
 blank-requires : tie.Need-blank-requires invariant-walk decreases-walk
 blank-requires c κs = search rules
 
 returns : tie.Need-returns invariant-walk decreases-walk
-returns c = c.before.blank.ensures ∙ ap listed (sym (list-plain _ _ _ _ c.if1.true))
+returns c = c.before.blank.ensures ∙ ap listed (sym (list_plain _ _ _ _ c.if1.true))
 
 cast_ends : tie.Need-overflow-cast-ends invariant-walk decreases-walk
 cast_ends c = let r = c.before.before.before.requires in omega arith
@@ -61,14 +61,14 @@ cast_ends c = let r = c.before.before.before.requires in omega arith
 array-write-ends : tie.Need-array-write-ends invariant-walk decreases-walk
 array-write-ends c = omega arith
 
-walk-holds : tie.Need-walk-init invariant-walk decreases-walk
+walk_holds : tie.Need-walk-init invariant-walk decreases-walk
 unfolding listed
-walk-holds c =
+walk_holds c =
     let start = c.before.before.before in (
       omega arith,
       omega arith,
       omega (arith, ap (λ (l : PartList). l.count) c.before.blank.ensures),
-      open-first _ _ refl (accepted-mid _ _ _ c.if1.false (start.requires.accepted c.if1.false)),
+      open_first _ _ refl (accepted_mid _ _ _ c.if1.false (start.requires.accepted c.if1.false)),
       begun _ _ _ _ c.if1.false start.requires.short refl c.before.blank.ensures,
       refl,
     )
@@ -79,14 +79,14 @@ sub_open c = omega arith
 array-read-size : tie.Need-array-read-size invariant-walk decreases-walk
 array-read-size c = let r = c.before.before.before.before.before.requires in omega arith
 
-size-requires : tie.Need-size-requires invariant-walk decreases-walk
-size-requires c κs = search rules
+size_requires : tie.Need-size-requires invariant-walk decreases-walk
+size_requires c κs = search rules
 
-walk-less : tie.Need-walk-smaller invariant-walk decreases-walk
-walk-less c = omega arith
+walk_less : tie.Need-walk-smaller invariant-walk decreases-walk
+walk_less c = omega arith
 
-walk-again : tie.Need-walk-preserved invariant-walk decreases-walk
-walk-again c =
+walk_again : tie.Need-walk-preserved invariant-walk decreases-walk
+walk_again c =
     let size = c.before in
     let turn = size.before in
     let loop = turn.before in
@@ -100,8 +100,8 @@ walk-again c =
       loop.walk.invariant.5,
     )
 
-shared-slice-read-k : tie.Need-shared-slice-read-k invariant-walk decreases-walk
-shared-slice-read-k c = let h = met c.before in omega arith
+shared_slice_read_k : tie.Need-shared-slice-read-k invariant-walk decreases-walk
+shared_slice_read_k c = let h = met c.before in omega arith
 
 add-l : tie.Need-overflow-add-l invariant-walk decreases-walk
 add-l c = let h = met c.before in omega arith
@@ -186,11 +186,11 @@ walk-again-3 c =
       length-set loop.walk.ends loop.walk.level (loop.walk.at + 2 + c.before.before.size2.result) ∙ loop.walk.invariant.5,
     )
 
-returns-2 : tie.Need-returns-2 invariant-walk decreases-walk
-returns-2 c = ended _ _ _ _ _ _ c.walk-test.false c.before.walk.invariant.4
+returns_2 : tie.Need-returns-2 invariant-walk decreases-walk
+returns_2 c = ended _ _ _ _ _ _ c.walk-test.false c.before.walk.invariant.4
 
-pub list-parts-spec : {M : Type 1} → statement M
-list-parts-spec =
+pub list_parts_spec : {M : Type 1} → statement M
+list_parts_spec =
     tie.close
     (tie.spec
     invariant-walk
@@ -199,13 +199,13 @@ list-parts-spec =
     returns
     cast_ends
     array-write-ends
-    walk-holds
+    walk_holds
     sub_open
     array-read-size
-    size-requires
-    walk-less
-    walk-again
-    shared-slice-read-k
+    size_requires
+    walk_less
+    walk_again
+    shared_slice_read_k
     add-l
     shared-slice-read-l
     add-from
@@ -224,4 +224,4 @@ list-parts-spec =
     add-level
     walk-less-3
     walk-again-3
-    returns-2)
+    returns_2)

@@ -46,9 +46,9 @@ loop-less c = omega arith
 loop-again : tie.Need-loop-preserved invariant-loop decreases-loop
 loop-again c = (omega arith, c.before.before.before.loop.invariant.1 ∙ past_one _ _ c.before.before.loop-test.true (omega arith))
 
-returns-2 : tie.Need-returns-2 invariant-loop decreases-loop
-returns-2 c = c.before.loop.invariant
+returns_2 : tie.Need-returns-2 invariant-loop decreases-loop
+returns_2 c = c.before.loop.invariant
 
-pub ascii-spec : {M : Type 1} → statement M
-ascii-spec =
-    tie.close (tie.spec invariant-loop decreases-loop loop-holds shared-slice-read-if1 returns add-i loop-less loop-again returns-2)
+pub ascii_spec : {M : Type 1} → statement M
+ascii_spec =
+    tie.close (tie.spec invariant-loop decreases-loop loop-holds shared-slice-read-if1 returns add-i loop-less loop-again returns_2)

@@ -10,17 +10,17 @@ use Rattle.upid.proofs.text.first.Tie as tie
 returns : tie.Need-returns
 returns c = row (take 2 characters) (drop 3 characters) _ _ _ _ (omega arith) (omega arith) (omega arith)
 
-returns-2 : tie.Need-returns-2
-returns-2 c = row (take 4 characters) (drop 5 characters) _ _ _ _ (omega arith) (omega arith) (omega arith)
+returns_2 : tie.Need-returns-2
+returns_2 c = row (take 4 characters) (drop 5 characters) _ _ _ _ (omega arith) (omega arith) (omega arith)
 
-returns-3 : tie.Need-returns-3
-returns-3 c = row (take 6 characters) (drop 7 characters) _ _ _ _ (omega arith) (omega arith) (omega arith)
+returns_3 : tie.Need-returns-3
+returns_3 c = row (take 6 characters) (drop 7 characters) _ _ _ _ (omega arith) (omega arith) (omega arith)
 
-returns-4 : tie.Need-returns-4
-returns-4 c = row (take 8 characters) (drop 9 characters) _ _ _ _ (omega arith) (omega arith) (omega arith)
+returns_4 : tie.Need-returns-4
+returns_4 c = row (take 8 characters) (drop 9 characters) _ _ _ _ (omega arith) (omega arith) (omega arith)
 
-returns-5 : tie.Need-returns-5
-returns-5 c = row (take 0 characters) (drop 1 characters) _ _ _ _ (omega arith) (omega arith) (omega arith)
+returns_5 : tie.Need-returns-5
+returns_5 c = row (take 0 characters) (drop 1 characters) _ _ _ _ (omega arith) (omega arith) (omega arith)
 
 returns-6 : tie.Need-returns-6
 returns-6 c = row (take 1 characters) (drop 2 characters) _ _ _ _ (omega arith) (omega arith) (omega arith)
@@ -41,4 +41,4 @@ returns-11 : tie.Need-returns-11
 returns-11 c = gap characters [] _ (omega arith) (omega arith)
 
 pub first_spec : {M : Type 1} → statement M
-first_spec = tie.close (tie.spec returns returns-2 returns-3 returns-4 returns-5 returns-6 returns-7 returns-8 returns-9 returns-10 returns-11)
+first_spec = tie.close (tie.spec returns returns_2 returns_3 returns_4 returns_5 returns-6 returns-7 returns-8 returns-9 returns-10 returns-11)

@@ -18,9 +18,9 @@ one_byte : (s : List ℕ) (i : ℕ) (t next : State) → i < length s → next �
 one_byte s i t next h e = rw (add-one, drop-cons s i 0, e)
 
 -- no byte is left
-at-end : (s : List ℕ) (i : ℕ) (t : State) → length s ≤ i → foldl step (wants []) s ≡ foldl step t (drop i s) → text_of s ≡ done t
+at_end : (s : List ℕ) (i : ℕ) (t : State) → length s ≤ i → foldl step (wants []) s ≡ foldl step t (drop i s) → text_of s ≡ done t
 unfolding text_of
-at-end s i t h e = rw (e, drop_of_length-le s h)
+at_end s i t h e = rw (e, drop_of_length-le s h)
 
 abbrev invariant-loop : tie.invariant-loop
 invariant-loop s t₀ i₀ t i = (i ≤ length s) × (foldl step (wants []) s ≡ foldl step (meaning t) (drop i s))
@@ -60,18 +60,18 @@ enum-told-3 c = search rules
 
 returns : tie.Need-returns invariant-loop decreases-loop
 unfolding done
-returns c = sym (at-end _ _ _ c.before.before.loop-test.false c.before.before.before.loop.invariant.1 ∙ ap (λ (x : Stand). done (meaning x)) c.enum_told.given.1)
+returns c = sym (at_end _ _ _ c.before.before.loop-test.false c.before.before.before.loop.invariant.1 ∙ ap (λ (x : Stand). done (meaning x)) c.enum_told.given.1)
 
-returns-2 : tie.Need-returns-2 invariant-loop decreases-loop
+returns_2 : tie.Need-returns-2 invariant-loop decreases-loop
 unfolding done
-returns-2 c = sym (at-end _ _ _ c.before.before.loop-test.false c.before.before.before.loop.invariant.1 ∙ ap (λ (x : Stand). done (meaning x)) c.enum-told2.given.1)
+returns_2 c = sym (at_end _ _ _ c.before.before.loop-test.false c.before.before.before.loop.invariant.1 ∙ ap (λ (x : Stand). done (meaning x)) c.enum-told2.given.1)
 
-returns-3 : tie.Need-returns-3 invariant-loop decreases-loop
+returns_3 : tie.Need-returns-3 invariant-loop decreases-loop
 unfolding done
-returns-3 c = sym (at-end _ _ _ c.before.before.loop-test.false c.before.before.before.loop.invariant.1 ∙ ap (λ (x : Stand). done (meaning x)) c.enum-told3.given.1)
+returns_3 c = sym (at_end _ _ _ c.before.before.loop-test.false c.before.before.before.loop.invariant.1 ∙ ap (λ (x : Stand). done (meaning x)) c.enum-told3.given.1)
 
-pub is-text-spec : {M : Type 1} → statement M
-is-text-spec =
+pub is_text_spec : {M : Type 1} → statement M
+is_text_spec =
     tie.close
     (tie.spec
     invariant-loop
@@ -87,5 +87,5 @@ is-text-spec =
     enum-told-2
     enum-told-3
     returns
-    returns-2
-    returns-3)
+    returns_2
+    returns_3)

@@ -30,9 +30,9 @@ returns : tie.Need-returns
 unfolding step
 returns c = rw (c.before.before.t.given.1, under _ _ _ c.if1.true)
 
-returns-2 : tie.Need-returns-2
+returns_2 : tie.Need-returns-2
 unfolding step
-returns-2 c = rw (c.before.before.before.t.given.1, over _ _ _ c.if2.true)
+returns_2 c = rw (c.before.before.before.t.given.1, over _ _ _ c.if2.true)
 
 sub-t9 : tie.Need-overflow-sub-t9
 sub-t9 c = search rules
@@ -40,21 +40,21 @@ sub-t9 c = search rules
 enum-told-2 : tie.Need-enum-told-2
 enum-told-2 c = search rules
 
-returns-3 : tie.Need-returns-3
+returns_3 : tie.Need-returns-3
 unfolding step
-returns-3 c = rw c.before.enum_told.given.1 c.first.ensures
+returns_3 c = rw c.before.enum_told.given.1 c.first.ensures
 
-returns-4 : tie.Need-returns-4
+returns_4 : tie.Need-returns-4
 unfolding step
-returns-4 c = rw (c.before.before.before.before.t.given.1, hit _ _ _ c.before.before.if1.false c.before.if2.false, no_more _ c.if3.true)
+returns_4 c = rw (c.before.before.before.before.t.given.1, hit _ _ _ c.before.before.if1.false c.before.if2.false, no_more _ c.if3.true)
 
-returns-5 : tie.Need-returns-5
+returns_5 : tie.Need-returns-5
 unfolding step
-returns-5 c = rw (c.before.before.before.before.t.given.1, hit _ _ _ c.before.before.if1.false c.before.if2.false, one_less _ c.if3.false)
+returns_5 c = rw (c.before.before.before.before.t.given.1, hit _ _ _ c.before.before.if1.false c.before.if2.false, one_less _ c.if3.false)
 
 returns-6 : tie.Need-returns-6
 unfolding step
 returns-6 c = rw c.enum-told2.given.1
 
-pub next-spec : {M : Type 1} → statement M
-next-spec = tie.close (tie.spec enum_told first-requires enum-known-t returns returns-2 sub-t9 enum-told-2 returns-3 returns-4 returns-5 returns-6)
+pub next_spec : {M : Type 1} → statement M
+next_spec = tie.close (tie.spec enum_told first-requires enum-known-t returns returns_2 sub-t9 enum-told-2 returns_3 returns_4 returns_5 returns-6)

@@ -1,21 +1,21 @@
 -- `from_flag` meets its contract: at a key the table computes, and behind all of them no name has the number.
 use mathlib.Core.Path.{ap}
-use Rattle.names.specs.Flags.{or-12, networkFlag, networks, networkOf}
+use Rattle.names.specs.Flags.{or_12, network_flag, networks, network_of}
 use Rattle.names.proofs.Laws.{unnamed}
 use Rattle.names.proofs.flags.NetworkIndicator.from_flag.Statement.{statement}
 use Rattle.names.proofs.flags.NetworkIndicator.from_flag.Tie as tie
 
 returns : tie.Need-returns
-unfolding networkOf
+unfolding network_of
 returns c = rw c.match.keys1
 
-returns-2 : tie.Need-returns-2
-unfolding networkOf
-returns-2 c = rw c.match.keys2
+returns_2 : tie.Need-returns-2
+unfolding network_of
+returns_2 c = rw c.match.keys2
 
-returns-3 : tie.Need-returns-3
-unfolding networkOf
-returns-3 c = ap or-12 (unnamed networkFlag _ networks c.match.rest)
+returns_3 : tie.Need-returns-3
+unfolding network_of
+returns_3 c = ap or_12 (unnamed network_flag _ networks c.match.rest)
 
-pub from-flag-spec : {M : Type 1} → statement M
-from-flag-spec = tie.close (tie.spec returns returns-2 returns-3)
+pub from_flag_spec : {M : Type 1} → statement M
+from_flag_spec = tie.close (tie.spec returns returns_2 returns_3)

@@ -1,21 +1,21 @@
 -- `from_flag` meets its contract: at a key the table computes, and behind all of them no name has the number.
 use mathlib.Core.Path.{ap}
-use Rattle.names.specs.Flags.{or-12, returnFlag, returnModes, returnOf}
+use Rattle.names.specs.Flags.{or_12, return_flag, return_modes, return_of}
 use Rattle.names.proofs.Laws.{unnamed}
 use Rattle.names.proofs.flags.ReturnMode.from_flag.Statement.{statement}
 use Rattle.names.proofs.flags.ReturnMode.from_flag.Tie as tie
 
 returns : tie.Need-returns
-unfolding returnOf
+unfolding return_of
 returns c = rw c.match.keys1
 
-returns-2 : tie.Need-returns-2
-unfolding returnOf
-returns-2 c = rw c.match.keys2
+returns_2 : tie.Need-returns-2
+unfolding return_of
+returns_2 c = rw c.match.keys2
 
-returns-3 : tie.Need-returns-3
-unfolding returnOf
-returns-3 c = ap or-12 (unnamed returnFlag _ returnModes c.match.rest)
+returns_3 : tie.Need-returns-3
+unfolding return_of
+returns_3 c = ap or_12 (unnamed return_flag _ return_modes c.match.rest)
 
-pub from-flag-spec : {M : Type 1} → statement M
-from-flag-spec = tie.close (tie.spec returns returns-2 returns-3)
+pub from_flag_spec : {M : Type 1} → statement M
+from_flag_spec = tie.close (tie.spec returns returns_2 returns_3)

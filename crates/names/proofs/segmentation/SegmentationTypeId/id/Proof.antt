@@ -93,17 +93,17 @@ enum-known-self c = search rules
 returns : tie.Need-returns
 returns c = rw c.enum_told.given.1
 
-returns-2 : tie.Need-returns-2
-returns-2 c = rw c.enum-told2.given.1
+returns_2 : tie.Need-returns-2
+returns_2 c = rw c.enum-told2.given.1
 
-returns-3 : tie.Need-returns-3
-returns-3 c = rw c.enum-told3.given.1
+returns_3 : tie.Need-returns-3
+returns_3 c = rw c.enum-told3.given.1
 
-returns-4 : tie.Need-returns-4
-returns-4 c = rw c.enum-told4.given.1
+returns_4 : tie.Need-returns-4
+returns_4 c = rw c.enum-told4.given.1
 
-returns-5 : tie.Need-returns-5
-returns-5 c = rw c.enum-told5.given.1
+returns_5 : tie.Need-returns-5
+returns_5 c = rw c.enum-told5.given.1
 
 returns-6 : tie.Need-returns-6
 returns-6 c = rw c.enum-told6.given.1
@@ -211,10 +211,10 @@ id_spec =
     enum-told-28
     enum-known-self
     returns
-    returns-2
-    returns-3
-    returns-4
-    returns-5
+    returns_2
+    returns_3
+    returns_4
+    returns_5
     returns-6
     returns-7
     returns-8

@@ -2,10 +2,10 @@
 use mathlib.Core.Path.{ap}
 use denote.Enum.Declared.{tag_of}
 use borrow.Author.Rules.{rules}
-use Rattle.names.specs.Numbering.{classIn, reserved}
-use Rattle.names.specs.Segmentation.{segmentations, segmentationTypeOf, writableSegmentation}
+use Rattle.names.specs.Numbering.{class_in, reserved}
+use Rattle.names.specs.Segmentation.{segmentations, segmentation_type_of, writable_segmentation}
 use Rattle.names.specs.declared.segmentation.SegmentationTypeId.TheVariants.{Reserved}
-use Rattle.names.proofs.Laws.{writable-by, own_name, name-writable}
+use Rattle.names.proofs.Laws.{writable_by, own_name, name_writable}
 use Rattle.names.proofs.Segmentations.{sound}
 use Rattle.names.specs.contracts.segmentation.SegmentationTypeId.{the_type}
 use Rattle.names.proofs.segmentation.SegmentationTypeId.writable.Statement.{statement}
@@ -21,21 +21,21 @@ enum_told : tie.Need-enum-told
 enum_told c = search rules
 
 returns : tie.Need-returns
-unfolding segmentationTypeOf writableSegmentation
+unfolding segmentation_type_of writable_segmentation
 returns c =
     let n = c.before.before.before.before.self.given in
-    rw n.1 (writable-by segmentations (Reserved n.0.0) _ reserved (ap (classIn segmentations) c.enum_told.given.1) c.before.before.from-id.ensures)
+    rw n.1 (writable_by segmentations (Reserved n.0.0) _ reserved (ap (class_in segmentations) c.enum_told.given.1) c.before.before.from-id.ensures)
 
-returns-2 : tie.Need-returns-2
-unfolding segmentationTypeOf writableSegmentation
-returns-2 c =
+returns_2 : tie.Need-returns-2
+unfolding segmentation_type_of writable_segmentation
+returns_2 c =
     let n = c.before.before.before.self.given in
     rw n.1 (own_name segmentations (tag_of the_type) sound (Reserved n.0.0) _ c.before.from-id.ensures c.match2.keys2)
 
-returns-3 : tie.Need-returns-3
-unfolding segmentationTypeOf writableSegmentation
-returns-3 c = name-writable segmentations (tag_of the_type) sound c.before.args.self c.match.keys2
+returns_3 : tie.Need-returns-3
+unfolding segmentation_type_of writable_segmentation
+returns_3 c = name_writable segmentations (tag_of the_type) sound c.before.args.self c.match.keys2
 
-pub writable-spec : {M : Type 1} → statement M
-writable-spec =
-    tie.close (tie.spec enum-known-self from-id-requires enum_told returns returns-2 returns-3)
+pub writable_spec : {M : Type 1} → statement M
+writable_spec =
+    tie.close (tie.spec enum-known-self from-id-requires enum_told returns returns_2 returns_3)

@@ -17,8 +17,8 @@ add-broken-2 c = search rules
 sub-if2 : tie.Need-overflow-sub-if2
 sub-if2 c = search rules
 
-returns-2 : tie.Need-returns-2
-returns-2 c = let a = c.before.before.args in left_is a.s.now a.self 0 (omega arith)
+returns_2 : tie.Need-returns-2
+returns_2 c = let a = c.before.before.args in left_is a.s.now a.self 0 (omega arith)
 
 sub-result : tie.Need-overflow-sub-result
 sub-result c = search rules
@@ -26,10 +26,10 @@ sub-result c = search rules
 sub-result-2 : tie.Need-overflow-sub-result-2
 sub-result-2 c = search rules
 
-returns-3 : tie.Need-returns-3
-returns-3 c = let a = c.before.before.args in left_is a.s.now a.self _ (omega arith)
+returns_3 : tie.Need-returns-3
+returns_3 c = let a = c.before.before.args in left_is a.s.now a.self _ (omega arith)
 
-pub left-spec : {M : Type 1} → statement M
-left-spec =
+pub left_spec : {M : Type 1} → statement M
+left_spec =
     tie.close
-    (tie.spec returns add-broken add-broken-2 sub-if2 returns-2 sub-result sub-result-2 returns-3)
+    (tie.spec returns add-broken add-broken-2 sub-if2 returns_2 sub-result sub-result-2 returns_3)

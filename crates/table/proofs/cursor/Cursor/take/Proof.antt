@@ -2,19 +2,19 @@
 use Prim.Native.Nat.{◌+◌, ◌*◌, ◌/◌, ◌%◌}
 use mathlib.Core.Path.{◌≡◌}
 use native.Mathlib.Omega.{arith}
-use Rattle.table.proofs.Steppings.{left_is, take-lacks, take-got}
+use Rattle.table.proofs.Steppings.{left_is, take_lacks, take_got}
 use borrow.Author.Rules.{rules}
 use Rattle.table.proofs.cursor.Cursor.take.Statement.{statement}
 use Rattle.table.proofs.cursor.Cursor.take.Tie as tie
 
 returns : tie.Need-returns
-returns c = let a = c.before.before.args in take-lacks a.s.now a.self a.w 0 (omega arith) (left_is a.s.now a.self 0 (omega arith))
+returns c = let a = c.before.before.args in take_lacks a.s.now a.self a.w 0 (omega arith) (left_is a.s.now a.self 0 (omega arith))
 
 sub-if2 : tie.Need-overflow-sub-if2
 sub-if2 c = search rules
 
-returns-2 : tie.Need-returns-2
-returns-2 c = let a = c.before.before.before.args in take-lacks a.s.now a.self a.w 0 (omega arith) (left_is a.s.now a.self 0 (omega arith))
+returns_2 : tie.Need-returns-2
+returns_2 c = let a = c.before.before.before.args in take_lacks a.s.now a.self a.w 0 (omega arith) (left_is a.s.now a.self 0 (omega arith))
 
 add-i : tie.Need-overflow-add-i
 add-i c = search rules
@@ -34,10 +34,10 @@ add-if3-3 c = search rules
 left-requires : tie.Need-left-requires
 left-requires c κs = search rules
 
-returns-3 : tie.Need-returns-3
-returns-3 c =
+returns_3 : tie.Need-returns-3
+returns_3 c =
     let a = c.before.before.before.before.before.args in
-    take-lacks a.s.now a.self a.w c.left.result (omega arith) c.left.ensures
+    take_lacks a.s.now a.self a.w c.left.result (omega arith) c.left.ensures
 
 bits-requires : tie.Need-bits-requires
 bits-requires c κs = search rules
@@ -51,11 +51,11 @@ add-t15 c = search rules
 add-t19 : tie.Need-overflow-add-t19
 add-t19 c = search rules
 
-returns-4 : tie.Need-returns-4
-returns-4 c =
+returns_4 : tie.Need-returns-4
+returns_4 c =
     let a = c.before.before.before.before.before.args in
     let e : (a.self.byte + a.self.bit / 8) * 8 + a.self.bit % 8 ≡ a.self.byte * 8 + a.self.bit = omega arith in
-    take-got a.s.now a.self a.w _ _ _ (omega arith) (rw e at c.bits.ensures) (omega arith) (omega arith)
+    take_got a.s.now a.self a.w _ _ _ (omega arith) (rw e at c.bits.ensures) (omega arith) (omega arith)
 
 pub take_spec : {M : Type 1} → statement M
 take_spec =
@@ -63,16 +63,16 @@ take_spec =
     (tie.spec
     returns
     sub-if2
-    returns-2
+    returns_2
     add-i
     sub-if3
     add-if3
     add-if3-2
     add-if3-3
     left-requires
-    returns-3
+    returns_3
     bits-requires
     add-over
     add-t15
     add-t19
-    returns-4)
+    returns_4)
