@@ -1,18 +1,20 @@
 // Adjustments in a chain: a time moved by an adjustment, two adjustments as one, and the one that takes another back. Each is a number of 33 bits.
+#![tactic(auto)]
+
 ghost use Rattle.std.specs.Prelude.{◌≡◌};
 ghost use Rattle.adjust.specs.Adjust.{adjust_of, chain_of, undo_of};
 
 use splice_time::SpliceTime;
 
 // A time that was moved, or refusal 32.
-#[derive(Drop)]
+#[derive(Clone, Copy)]
 pub enum Moved {
     Is(SpliceTime),
     TooLarge,
 }
 
 // An adjustment, or refusal 32.
-#[derive(Drop)]
+#[derive(Clone, Copy)]
 pub enum Adjustment {
     Is(u64),
     TooLarge,

@@ -1,4 +1,6 @@
 // The single box: a section whose pts_adjustment is moved, its CRC mended, and no other byte changed.
+#![tactic(auto)]
+
 ghost use Rattle.std.specs.Prelude.{◌≡◌, ◌+◌, ◌^◌, ◌≤◌, ◌<◌, length};
 ghost use Rattle.adjust_section.specs.Adjusted.{section_with, adjusted_section};
 ghost use Rattle.bit_stores.specs.Written.{answer_of, later_of};

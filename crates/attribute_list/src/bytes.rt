@@ -4,7 +4,7 @@ ghost use Rattle.attribute_list.specs.Grammar.{name_byte, quoted_byte, plain_byt
 ghost use Rattle.attribute_list.specs.Cutting.{span, test_of, same};
 
 // The bytes of a name, between quotes, and of an unquoted value.
-#[derive(Drop)]
+#[derive(Clone, Copy)]
 pub enum Class {
     Name,
     Quoted,

@@ -5,7 +5,7 @@ ghost use Rattle.attribute_list.specs.Cutting.{closed, quoted_of, plain_of, cut_
 use crate::bytes::{Class, past};
 
 // The lengths of an attribute's name and value, and whether the value is quoted.
-#[derive(Drop)]
+#[derive(Clone, Copy)]
 pub enum Cut {
     Nothing,
     Is(usize, bool, usize),

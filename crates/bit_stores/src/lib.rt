@@ -1,4 +1,6 @@
 // The writer's pen: fields stored at any bit of a lent target, and what a writer answers.
+#![tactic(auto)]
+
 ghost use Rattle.std.specs.Prelude.{◌≡◌, ◌+◌, ◌-◌, ◌*◌, ◌/◌, ◌%◌, ◌^◌, ◌<◌, ◌≤◌};
 ghost use Rattle.bit_stores.specs.Private.{Fits, with_bits};
 ghost use Rattle.table.specs.Bits.{bits_of_num, bits_of, AllBytes};
@@ -10,7 +12,7 @@ use table::numbers::wide;
 use table::store::{put_bytes, put_number};
 
 // What a writer answers: how many bytes it wrote, from the target's first on, or the number of its refusal.
-#[derive(Drop)]
+#[derive(Clone, Copy)]
 pub enum Written {
     Wrote(usize),
     Refused(u8),

@@ -1,10 +1,12 @@
 // The open-break board (Q-7): 32 places for breaks now open. A board goes in by value and comes back.
+#![tactic(auto)]
+
 ghost use Rattle.std.specs.Prelude.{◌≡◌, length};
 ghost use Rattle.board.specs.Breaks.{free_from};
 ghost use Rattle.board.specs.Board.{blank_place, empty_board, is_free, holds, before, breaks_of, as_found, open_of, close_of};
 
 // A place: free, or with an open break's event id and provider id. A free place is all zero.
-#[derive(Drop)]
+#[derive(Clone, Copy)]
 pub struct Place {
     pub used: bool,
     pub event: u32,
@@ -12,28 +14,28 @@ pub struct Place {
 }
 
 // `next` is the event id from which the next opening looks for its own.
-#[derive(Drop)]
+#[derive(Clone, Copy)]
 pub struct Board {
     pub places: [Place; 32],
     pub next: u32,
 }
 
 // Refusals 61 and 62.
-#[derive(Drop)]
+#[derive(Clone, Copy)]
 pub enum Refusal {
     BoardFull,
     NotOpen,
 }
 
 // To an opening its event id, to a closing the provider id.
-#[derive(Drop)]
+#[derive(Clone, Copy)]
 pub enum Answer {
     Is(u32),
     Refused(Refusal),
 }
 
 // What a call answers, and the board after it.
-#[derive(Drop)]
+#[derive(Clone, Copy)]
 pub struct Step {
     pub answer: Answer,
     pub board: Board,

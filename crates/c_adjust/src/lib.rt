@@ -1,4 +1,6 @@
 // The flat forms of Q-12's answers: a time that was moved, and an adjustment.
+#![tactic(auto)]
+
 ghost use Rattle.std.specs.Prelude.{◌≡◌};
 ghost use Rattle.c_adjust.specs.FlatAdjust.{flat_moved, flat_adjustment};
 
@@ -7,7 +9,7 @@ use c_section::headers::{FlatAdjusted, TOO_LARGE};
 use splice_time::SpliceTime;
 
 #[repr(C)]
-#[derive(Drop)]
+#[derive(Clone, Copy)]
 pub struct FlatAdjustment {
     pub refusal: u64,
     pub adjustment: u64,

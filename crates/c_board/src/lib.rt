@@ -1,6 +1,8 @@
 // The board of two channels over the C boundary: 66 words that the caller lends. The first 32 hold the event id (above) and the provider id (below) of each
 // place, the next 32 whether it is taken (the lowest bit) and by which channel, the last two the next id of each channel. Every run of 66 words is a board; a
 // shorter one is refused (36). Only an accepted call changes the words.
+#![tactic(auto)]
+
 ghost use Rattle.std.specs.Prelude.{◌≤◌, ◌≡◌, length};
 ghost use Rattle.board.specs.Breaks.{number_of};
 ghost use Rattle.c_board.specs.Words.{place_given, places_given, whose_given, board_given, ids_word, mark_word, word_of, stored};
@@ -12,7 +14,7 @@ use channels::{Reply, SharedBoard, close_break, empty, open_break};
 
 // To an opening its event id, to a closing the provider id; or the number of the refusal.
 #[repr(C)]
-#[derive(Drop)]
+#[derive(Clone, Copy)]
 pub struct FlatBoardAnswer {
     pub refusal: u64,
     pub id: u64,

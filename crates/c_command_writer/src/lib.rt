@@ -1,5 +1,7 @@
 // The writers over the C boundary. They take words, those of the C structs in their order: a word past the end of the slice counts as 0, and words past the
 // struct's end are not looked at. Words of which one exceeds its field (32), or that are not those of a value's flat form (33), are not written.
+#![tactic(auto)]
+
 ghost use Rattle.std.specs.Prelude.{[], ◌∷◌, ◌≡◌, ◌^◌, ltb, drop};
 ghost use Rattle.c_command_writer.specs.Words.{word, within, same, flat_written};
 ghost use Rattle.c_command_writer.specs.Private.{lower};
@@ -11,7 +13,7 @@ pub mod insert_components;
 
 // What a writer answers: how many bytes it wrote, or the number of its refusal.
 #[repr(C)]
-#[derive(Drop)]
+#[derive(Clone, Copy)]
 pub struct FlatWritten {
     pub refusal: u64,
     pub length: u64,

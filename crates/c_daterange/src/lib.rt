@@ -1,4 +1,6 @@
 // The flat form of what a line says (Q-1).
+#![tactic(auto)]
+
 ghost use Rattle.std.specs.Prelude.{◌≡◌};
 ghost use Rattle.c_daterange.specs.FlatDaterange.{name_number, flat_daterange};
 
@@ -6,7 +8,7 @@ use c_section::{FlatView, flat_view};
 use daterange_line::{Cue, Read};
 
 #[repr(C)]
-#[derive(Drop)]
+#[derive(Clone, Copy)]
 pub struct FlatDaterange {
     pub refusal: u64,
     pub id: FlatView,

@@ -1,4 +1,6 @@
 // The descriptor writer over the C boundary: an item from the words of its step, and of what stands beside it.
+#![tactic(auto)]
+
 ghost use Rattle.std.specs.Prelude.{◌≡◌, ◌≤◌};
 ghost use Rattle.descriptor_measure.specs.Writing.{count_beside, descriptor_made};
 ghost use Rattle.descriptor_writer.specs.Stores.{Writes};

@@ -10,7 +10,7 @@ use descriptor::segmentation::{MAX_COMPONENTS, SegmentationComponent};
 use descriptor_loop::reading::Reading;
 
 #[repr(C)]
-#[derive(Drop)]
+#[derive(Clone, Copy)]
 pub struct FlatSegmentationComponent {
     pub component_tag: u64,
     pub pts_offset: u64,
@@ -18,7 +18,7 @@ pub struct FlatSegmentationComponent {
 
 // The components before the count, all zero past it; the EIDR, a byte to a word, all zero where the UPID is no EIDR.
 #[repr(C)]
-#[derive(Drop)]
+#[derive(Clone, Copy)]
 pub struct FlatBeside {
     pub refusal: u64,
     pub values: [u64; 3],

@@ -13,7 +13,7 @@ use descriptor_loop::Item;
 use table::View;
 
 #[repr(C)]
-#[derive(Drop)]
+#[derive(Clone, Copy)]
 pub struct FlatTimeDescriptor {
     pub tai_seconds: u64,
     pub tai_nanoseconds: u64,
@@ -22,7 +22,7 @@ pub struct FlatTimeDescriptor {
 
 // Kind 0: the end; 1 avail, 2 DTMF, 3 cancelled segmentation, 4 segmentation, 5 time, 6 reserved; 7 refused. All that belongs to another kind is 0.
 #[repr(C)]
-#[derive(Drop)]
+#[derive(Clone, Copy)]
 pub struct FlatItem {
     pub kind: u64,
     pub provider_avail_id: u64,

@@ -10,7 +10,7 @@ use descriptor::segmentation::{
 };
 
 #[repr(C)]
-#[derive(Drop)]
+#[derive(Clone, Copy)]
 pub struct FlatRestrictions {
     pub web_delivery_allowed_flag: u64,
     pub no_regional_blackout_flag: u64,
@@ -19,7 +19,7 @@ pub struct FlatRestrictions {
 }
 
 #[repr(C)]
-#[derive(Drop)]
+#[derive(Clone, Copy)]
 pub struct FlatSubSegments {
     pub present: u64,
     pub sub_segment_num: u64,
@@ -28,7 +28,7 @@ pub struct FlatSubSegments {
 
 // The UPID's reported type; its bytes are those that the item has. Of a cancelled one, all after the cancel indicator is 0.
 #[repr(C)]
-#[derive(Drop)]
+#[derive(Clone, Copy)]
 pub struct FlatSegmentation {
     pub segmentation_event_id: u64,
     pub segmentation_event_cancel_indicator: u64,

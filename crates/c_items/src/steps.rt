@@ -9,7 +9,7 @@ use table::numbers::big_endian;
 
 // The identifier is that of a reserved descriptor, 0 with any other item.
 #[repr(C)]
-#[derive(Drop)]
+#[derive(Clone, Copy)]
 pub struct FlatStep {
     pub refusal: u64,
     pub values: [u64; 3],

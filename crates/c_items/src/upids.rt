@@ -6,7 +6,7 @@ use crate::refusals::{number, values};
 use upid::{MAX_PARTS, Part, PartList, Upid, UpidRead};
 
 #[repr(C)]
-#[derive(Drop)]
+#[derive(Clone, Copy)]
 pub struct FlatPart {
     pub upid_type: u64,
     pub level: u64,
@@ -16,7 +16,7 @@ pub struct FlatPart {
 
 // The reported type; the EIDR, a byte to a word; and the parts of a MID before the count, all zero past it.
 #[repr(C)]
-#[derive(Drop)]
+#[derive(Clone, Copy)]
 pub struct FlatUpid {
     pub refusal: u64,
     pub values: [u64; 3],

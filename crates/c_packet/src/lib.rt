@@ -1,5 +1,7 @@
 // The assembler over the C boundary: its state stands in words that the caller lends. A word past the end of the slice counts as 0 and is not stored, and words
 // behind the state's are not looked at.
+#![tactic(auto)]
+
 ghost use Rattle.std.specs.Prelude.{◌≡◌, get_or, set};
 ghost use Rattle.transport_packet.specs.Packet.{number_of};
 ghost use Rattle.transport.specs.Assembler.{fresh_assembler, holding, fed_of, taken_of};

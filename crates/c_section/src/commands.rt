@@ -9,7 +9,7 @@ use splice_time::break_duration::Break;
 
 // By program, at a time; or by as many components.
 #[repr(C)]
-#[derive(Drop)]
+#[derive(Clone, Copy)]
 pub struct FlatMode {
     pub program_splice_flag: u64,
     pub splice_time: FlatTime,
@@ -17,7 +17,7 @@ pub struct FlatMode {
 }
 
 #[repr(C)]
-#[derive(Drop)]
+#[derive(Clone, Copy)]
 pub struct FlatBreak {
     pub duration_flag: u64,
     pub auto_return: u64,
@@ -26,7 +26,7 @@ pub struct FlatBreak {
 
 // Of a cancelled insert, all after `reserved` is 0.
 #[repr(C)]
-#[derive(Drop)]
+#[derive(Clone, Copy)]
 pub struct FlatInsert {
     pub splice_event_id: u64,
     pub splice_event_cancel_indicator: u64,
@@ -41,7 +41,7 @@ pub struct FlatInsert {
 
 // All that belongs to another type is 0.
 #[repr(C)]
-#[derive(Drop)]
+#[derive(Clone, Copy)]
 pub struct FlatCommand {
     pub refusal: u64,
     pub splice_command_type: u64,

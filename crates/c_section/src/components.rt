@@ -8,7 +8,7 @@ use command::CommandRead;
 use command::components::{InsertComponent, MAX_COMPONENTS};
 
 #[repr(C)]
-#[derive(Drop)]
+#[derive(Clone, Copy)]
 pub struct FlatInsertComponent {
     pub component_tag: u64,
     pub splice_time: FlatTime,
@@ -16,7 +16,7 @@ pub struct FlatInsertComponent {
 
 // The components before the count, blank past it: a time that is not specified.
 #[repr(C)]
-#[derive(Drop)]
+#[derive(Clone, Copy)]
 pub struct FlatInsertComponents {
     pub refusal: u64,
     pub count: u64,

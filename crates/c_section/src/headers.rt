@@ -14,7 +14,7 @@ const NO_HEADER: u64 = 5;
 pub const TOO_LARGE: u64 = 32;
 
 #[repr(C)]
-#[derive(Drop)]
+#[derive(Clone, Copy)]
 pub struct FlatHeader {
     pub refusal: u64,
     pub protocol_version: u64,
@@ -92,7 +92,7 @@ pub fn flat_header_read(read: HeaderRead) -> FlatHeader
 
 // An adjusted time: kind 0 where there is none, 3 at so many ticks.
 #[repr(C)]
-#[derive(Drop)]
+#[derive(Clone, Copy)]
 pub struct FlatAdjusted {
     pub refusal: u64,
     pub kind: u64,

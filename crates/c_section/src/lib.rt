@@ -1,4 +1,6 @@
 // The flat forms of readings: structs of 64-bit words alone, which is what crosses to C. A named number crosses as its number, a flag as 0 or 1.
+#![tactic(auto)]
+
 ghost use Rattle.std.specs.Prelude.{◌≡◌};
 ghost use Rattle.table.specs.Table.{flag_number};
 ghost use Rattle.c_section.specs.Flat.{flat_view, flat_time};
@@ -13,7 +15,7 @@ pub mod sections;
 
 // A run of the lent bytes.
 #[repr(C)]
-#[derive(Drop)]
+#[derive(Clone, Copy)]
 pub struct FlatView {
     pub at: u64,
     pub len: u64,
@@ -21,7 +23,7 @@ pub struct FlatView {
 
 // A time: kind 0 where there is none, 1 immediate, 2 unspecified, 3 at so many ticks.
 #[repr(C)]
-#[derive(Drop)]
+#[derive(Clone, Copy)]
 pub struct FlatTime {
     pub kind: u64,
     pub ticks: u64,

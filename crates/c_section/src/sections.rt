@@ -10,7 +10,7 @@ use command::SpliceCommand;
 use section::{Frame, Refusal};
 
 #[repr(C)]
-#[derive(Drop)]
+#[derive(Clone, Copy)]
 pub struct FlatSection {
     pub refusal: u64,
     pub header: FlatHeader,

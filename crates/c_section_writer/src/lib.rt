@@ -1,4 +1,6 @@
 // The section writer over the C boundary: a section from the words of a header, of a command and of its components.
+#![tactic(auto)]
+
 ghost use Rattle.std.specs.Prelude.{[], ◌≡◌, ◌≤◌};
 ghost use Rattle.command.specs.Command.{array, count_in};
 ghost use Rattle.command_measure.specs.Made.{command_made};

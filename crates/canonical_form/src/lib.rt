@@ -1,1 +1,3 @@
 // The canonical form and equal readings: definitions.
+#![tactic(auto)]
+

@@ -1,4 +1,6 @@
 // Two channels on one board (Q-8). The 32 places are shared: none belongs to a channel, and each says whose break stands in it.
+#![tactic(auto)]
+
 ghost use Rattle.std.specs.Prelude.{◌≡◌, length};
 ghost use Rattle.board.specs.Board.{breaks_of};
 ghost use Rattle.channels.specs.Channels.{empty_shared, seen_as, seen_by, as_found, open_of, close_of};
@@ -6,7 +8,7 @@ ghost use Rattle.channels.specs.Channels.{empty_shared, seen_as, seen_by, as_fou
 use board::{Answer, Place, Refusal, blank_place, free_id, free_place, place_of};
 
 // `whose[i]` is the channel of the break in `places[i]`; of a free place it says nothing. `next` has an id for each channel.
-#[derive(Drop)]
+#[derive(Clone, Copy)]
 pub struct SharedBoard {
     pub places: [Place; 32],
     pub whose: [u8; 32],
@@ -14,13 +16,13 @@ pub struct SharedBoard {
 }
 
 // Refusal 63, or what Q-7's board would answer: refusals 61 and 62 among it.
-#[derive(Drop)]
+#[derive(Clone, Copy)]
 pub enum Reply {
     NoSuchChannel,
     Is(Answer),
 }
 
-#[derive(Drop)]
+#[derive(Clone, Copy)]
 pub struct Turn {
     pub reply: Reply,
     pub board: SharedBoard,

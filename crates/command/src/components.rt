@@ -15,34 +15,34 @@ use table::numbers::bits;
 // An insert has at most so many components.
 pub const MAX_COMPONENTS: usize = 255;
 
-#[derive(Drop)]
+#[derive(Clone, Copy)]
 pub struct InsertComponent {
     pub component_tag: u8,
     pub splice_time: SpliceTime,
 }
 
 // A command as it was read, or its refusal, and its components: blank past their count.
-#[derive(Drop)]
+#[derive(Clone, Copy)]
 pub struct ListedCommand {
     pub read: CommandRead,
     pub components: [InsertComponent; MAX_COMPONENTS],
 }
 
 // A component and the place of the byte after it.
-#[derive(Drop)]
+#[derive(Clone, Copy)]
 pub struct Component {
     pub component: InsertComponent,
     pub next: usize,
 }
 
-#[derive(Drop)]
+#[derive(Clone, Copy)]
 pub enum ComponentRead {
     Got(Component),
     Lacks(Short),
 }
 
 // The place of the byte after components that are all there.
-#[derive(Drop)]
+#[derive(Clone, Copy)]
 pub enum Skimmed {
     Got(usize),
     Lacks(Short),

@@ -16,13 +16,13 @@ use table::cursor::{Cursor, Short};
 use table::numbers::{big_endian, wide};
 
 // By program, or by as many components; they are read on demand.
-#[derive(Drop)]
+#[derive(Clone, Copy)]
 pub enum SpliceMode {
     Program(SpliceTime),
     Components(u8),
 }
 
-#[derive(Drop)]
+#[derive(Clone, Copy)]
 pub struct InsertDetail {
     pub network_indicator: NetworkIndicator,
     pub splice_mode: SpliceMode,
@@ -32,39 +32,39 @@ pub struct InsertDetail {
     pub avails_expected: u8,
 }
 
-#[derive(Drop)]
+#[derive(Clone, Copy)]
 pub enum SpliceDetail {
     Cancel,
     Insert(InsertDetail),
 }
 
-#[derive(Drop)]
+#[derive(Clone, Copy)]
 pub struct SpliceInsert {
     pub splice_event_id: u32,
     pub reserved: u8,
     pub splice_detail: SpliceDetail,
 }
 
-#[derive(Drop)]
+#[derive(Clone, Copy)]
 pub enum InsertRead {
     Got(SpliceInsert),
     Lacks(Short),
 }
 
 // A part of an insert and the place of the byte after it: each part starts and ends with a byte.
-#[derive(Drop)]
+#[derive(Clone, Copy)]
 struct Moded {
     pub mode: SpliceMode,
     pub next: usize,
 }
 
-#[derive(Drop)]
+#[derive(Clone, Copy)]
 enum ModedRead {
     Got(Moded),
     Lacks(Short),
 }
 
-#[derive(Drop)]
+#[derive(Clone, Copy)]
 enum ActiveRead {
     Got(InsertDetail),
     Lacks(Short),

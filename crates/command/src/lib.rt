@@ -1,4 +1,6 @@
 // The splice commands: what a section asks for.
+#![tactic(auto)]
+
 ghost use Rattle.std.specs.Prelude.{◌≡◌};
 ghost use Rattle.command.specs.Command.{private, read, empty, command_of, number_of};
 ghost use Rattle.command.specs.Insert.{insert};
@@ -16,13 +18,13 @@ use table::numbers::big_endian;
 pub mod components;
 pub mod insert;
 
-#[derive(Drop)]
+#[derive(Clone, Copy)]
 pub struct Private {
     pub identifier: u32,
     pub private_bytes: View,
 }
 
-#[derive(Drop)]
+#[derive(Clone, Copy)]
 pub enum SpliceCommand {
     SpliceNull,
     SpliceInsert(SpliceInsert),
@@ -32,7 +34,7 @@ pub enum SpliceCommand {
 }
 
 // A command; or refusal 10, a type that none has; or refusal 11, a malformed payload.
-#[derive(Drop)]
+#[derive(Clone, Copy)]
 pub enum CommandRead {
     Is(SpliceCommand),
     UnknownType,

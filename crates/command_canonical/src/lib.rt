@@ -1,4 +1,6 @@
 // Whether a command's payload is canonical: by byte positions, as the tables have their fields.
+#![tactic(auto)]
+
 ghost use Rattle.std.specs.Prelude.{◌≡◌, length};
 ghost use Rattle.canonical_form.specs.Command.{canonical_command};
 ghost use Rattle.command_canonical.specs.Private.{Told, exact};
@@ -8,7 +10,7 @@ ghost use Rattle.splice_time.specs.Time.{splice_time};
 ghost use Rattle.table.specs.Table.{list, canonical_by};
 
 // What a walk along a table's fields answers: the byte after them, or that they are not all there in their canonical form.
-#[derive(Drop)]
+#[derive(Clone, Copy)]
 enum Form {
     Ends(usize),
     Other,

@@ -1,4 +1,6 @@
 // Measuring a command before it is written: which refusal it has, and how many bytes its payload has. One without components, or with blank ones, needs no array.
+#![tactic(auto)]
+
 ghost use Rattle.std.specs.Prelude.{◌≤◌, ◌≡◌, true, []};
 ghost use Rattle.command.specs.Command.{array, count_in, private};
 ghost use Rattle.command_measure.specs.Made.{command_made, measured_of};
@@ -12,7 +14,7 @@ use table::lent::lies_in;
 pub mod measure;
 
 // The number of a refusal, 0 for none, and how many bytes the payload has.
-#[derive(Drop)]
+#[derive(Clone, Copy)]
 pub struct Measured {
     pub refusal: u8,
     pub size: usize,

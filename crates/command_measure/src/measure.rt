@@ -89,7 +89,7 @@ pub(crate) fn measure_time(time: SpliceTime) -> Measured
 }
 
 // Of components: do their times fit their fields, are all immediate or all timed, and how many bytes do they take?
-#[derive(Drop)]
+#[derive(Clone, Copy)]
 struct Survey {
     pub fits: bool,
     pub alike: bool,

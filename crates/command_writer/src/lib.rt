@@ -1,4 +1,6 @@
 // Writing the payload of a command. One without components, or with blank ones, is handed no array; the forms below that take it say what components add.
+#![tactic(auto)]
+
 ghost use Rattle.std.specs.Prelude.{◌≡◌, [], ◌+◌, ◌≤◌, length};
 ghost use Rattle.command_measure.specs.Made.{counted, insert_made, command_made};
 ghost use Rattle.command.specs.Command.{array, count_in};

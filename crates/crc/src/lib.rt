@@ -1,4 +1,6 @@
 // The CRC of a section (ISO/IEC 13818-1, Annex A) in two forms: bit by bit, to be read, and four bytes at a time, to be used.
+#![tactic(auto)]
+
 ghost use Rattle.std.specs.Prelude.{◌≡◌, ◌+◌, ◌*◌, ◌≤◌, ◌<◌, length};
 ghost use Rattle.crc_table.specs.Turns.{turns, reversed};
 ghost use Rattle.crc.specs.Crc.{all_ones, crc_bit, crc_bits, crc_of};

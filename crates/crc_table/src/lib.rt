@@ -1,6 +1,8 @@
 // What a byte of the CRC's register leaves after 32 steps, by its place there: a table for each of the four bytes. A table is a `match`, which
 // the compiler holds in read-only memory. Its rows are numbered from 256 on: numbers that fit a byte the compiler takes for ones with a sign,
 // at an instruction more for each look-up.
+#![tactic(auto)]
+
 pub mod first_byte;
 pub mod last_byte;
 pub mod second_byte;

@@ -1,4 +1,6 @@
 // A cue as an EXT-X-DATERANGE line (Q-1): the section is read, and its command chooses the name.
+#![tactic(auto)]
+
 ghost use Rattle.std.specs.Prelude.{◌≡◌};
 ghost use Rattle.daterange.specs.Choice.{leaving, inserted, cue_for, daterange_made};
 ghost use Rattle.bit_stores.specs.Written.{answer_of, later_of};

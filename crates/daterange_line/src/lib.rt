@@ -1,4 +1,6 @@
 // EXT-X-DATERANGE lines of RFC 8216 that carry a cue, read (Q-1). A line has no line end.
+#![tactic(auto)]
+
 ghost use Rattle.std.specs.Prelude.{◌≡◌};
 ghost use Rattle.daterange_line.specs.Reading.{read_of, read_later};
 
@@ -11,7 +13,7 @@ mod earlier;
 mod looking;
 
 // Which of the three names: SCTE35-CMD, SCTE35-OUT, SCTE35-IN.
-#[derive(Drop)]
+#[derive(Clone, Copy)]
 pub enum Cue {
     Cmd,
     Out,
@@ -19,7 +21,7 @@ pub enum Cue {
 }
 
 // What an attribute's name says.
-#[derive(Drop)]
+#[derive(Clone, Copy)]
 pub enum Known {
     Id,
     Date,
@@ -28,7 +30,7 @@ pub enum Known {
 }
 
 // What a line says: ID and START-DATE as views of the line, the name used, and how many bytes of the section stand in the target.
-#[derive(Drop)]
+#[derive(Clone, Copy)]
 pub struct Reading {
     pub id: View,
     pub date: View,
@@ -37,7 +39,7 @@ pub struct Reading {
 }
 
 // A reading, or the number of its refusal: 52, 51, 36.
-#[derive(Drop)]
+#[derive(Clone, Copy)]
 pub enum Read {
     Is(Reading),
     Refused(u8),

@@ -12,7 +12,7 @@ use attribute_list::cutting::{Cut, cut_at};
 use table::View;
 
 // What was found so far: a blank view is one that was not. `digits` has the 0x too.
-#[derive(Drop)]
+#[derive(Clone, Copy)]
 pub(crate) struct Found {
     pub id: View,
     pub date: View,
@@ -21,14 +21,14 @@ pub(crate) struct Found {
 }
 
 // After one attribute more: a fault, the last one, or where the next one begins.
-#[derive(Drop)]
+#[derive(Clone, Copy)]
 pub(crate) enum Turn {
     Bad,
     Done(Found),
     More(Found, usize),
 }
 
-#[derive(Drop)]
+#[derive(Clone, Copy)]
 pub(crate) enum Look {
     Refused(u8),
     Is(Found),

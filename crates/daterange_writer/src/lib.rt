@@ -1,4 +1,6 @@
 // EXT-X-DATERANGE lines of RFC 8216, written (Q-1). The section is any bytes here; `daterange` reads it first, and chooses the name.
+#![tactic(auto)]
+
 ghost use Rattle.std.specs.Prelude.{◌≡◌};
 ghost use Rattle.bit_stores.specs.Written.{answer_of, later_of};
 ghost use Rattle.daterange_writer.specs.Writing.{line_made};

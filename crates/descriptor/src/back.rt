@@ -9,13 +9,13 @@ use crate::segmentation::{SubSegment, SubSegments};
 use names::segmentation::SegmentationTypeId;
 use table::cursor::Short;
 
-#[derive(Drop)]
+#[derive(Clone, Copy)]
 pub(crate) enum SubSegmentsRead {
     Got(SubSegments),
     Lacks(Short),
 }
 
-#[derive(Drop)]
+#[derive(Clone, Copy)]
 pub(crate) struct Back {
     pub segmentation_type_id: SegmentationTypeId,
     pub segment_num: u8,
@@ -23,7 +23,7 @@ pub(crate) struct Back {
     pub sub_segments: SubSegments,
 }
 
-#[derive(Drop)]
+#[derive(Clone, Copy)]
 pub(crate) enum BackRead {
     Got(Back),
     Lacks(Short),

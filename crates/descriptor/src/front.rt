@@ -16,62 +16,62 @@ use table::cursor::Short;
 use table::numbers::{size, time33};
 
 // Each part with the byte after it.
-#[derive(Drop)]
+#[derive(Clone, Copy)]
 pub(crate) struct Component {
     pub component: SegmentationComponent,
     pub next: usize,
 }
 
-#[derive(Drop)]
+#[derive(Clone, Copy)]
 pub(crate) enum ComponentRead {
     Got(Component),
     Lacks(Short),
 }
 
-#[derive(Drop)]
+#[derive(Clone, Copy)]
 pub(crate) enum ComponentsPassed {
     Got(usize),
     Lacks(Short),
 }
 
-#[derive(Drop)]
+#[derive(Clone, Copy)]
 pub(crate) struct Mode {
     pub mode: SegmentationMode,
     pub next: usize,
 }
 
-#[derive(Drop)]
+#[derive(Clone, Copy)]
 pub(crate) enum ModeRead {
     Got(Mode),
     Lacks(Short),
 }
 
-#[derive(Drop)]
+#[derive(Clone, Copy)]
 pub(crate) struct Lasting {
     pub duration: SegmentationDuration,
     pub next: usize,
 }
 
-#[derive(Drop)]
+#[derive(Clone, Copy)]
 pub(crate) enum DurationRead {
     Got(Lasting),
     Lacks(Short),
 }
 
-#[derive(Drop)]
+#[derive(Clone, Copy)]
 pub(crate) struct Written {
     pub upid: SegmentationUpid,
     pub next: usize,
 }
 
-#[derive(Drop)]
+#[derive(Clone, Copy)]
 pub(crate) enum WrittenRead {
     Got(Written),
     Lacks(Short),
 }
 
 // The UPID as it is written.
-#[derive(Drop)]
+#[derive(Clone, Copy)]
 pub(crate) struct Front {
     pub program_segmentation_flag: bool,
     pub segmentation_duration_flag: bool,
@@ -82,27 +82,27 @@ pub(crate) struct Front {
     pub segmentation_upid: SegmentationUpid,
 }
 
-#[derive(Drop)]
+#[derive(Clone, Copy)]
 pub(crate) struct Fronted {
     pub front: Front,
     pub next: usize,
 }
 
-#[derive(Drop)]
+#[derive(Clone, Copy)]
 pub(crate) enum FrontRead {
     Got(Fronted),
     Lacks(Short),
 }
 
 // What stands beside a descriptor goes by these.
-#[derive(Drop)]
+#[derive(Clone, Copy)]
 pub(crate) struct ModeAndUpid {
     pub mode: SegmentationMode,
     pub upid: SegmentationUpid,
     pub next: usize,
 }
 
-#[derive(Drop)]
+#[derive(Clone, Copy)]
 pub(crate) enum ModeAndUpidRead {
     Got(ModeAndUpid),
     Lacks,

@@ -17,14 +17,14 @@ use table::numbers::size;
 use upid::eidr;
 
 // The components, blank past their count, and the EIDR identifier, all zero where the UPID is no EIDR.
-#[derive(Drop)]
+#[derive(Clone, Copy)]
 pub struct Beside {
     pub components: [SegmentationComponent; MAX_COMPONENTS],
     pub eidr: [u8; 12],
 }
 
 // The identifier is all zero where the kind of the descriptor implies it.
-#[derive(Drop)]
+#[derive(Clone, Copy)]
 pub struct FullDescriptor {
     pub read: DescriptorRead,
     pub identifier: [u8; 4],

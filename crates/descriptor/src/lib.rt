@@ -1,4 +1,6 @@
 // Splice descriptors: what an item of the loop holds (document 01, "Loop items"). A payload is what follows the identifier; views count from its start.
+#![tactic(auto)]
+
 ghost use Rattle.std.specs.Prelude.{◌≡◌};
 ghost use Rattle.descriptor.specs.Descriptor.{is_cuei, descriptor_of};
 
@@ -18,7 +20,7 @@ pub mod plain;
 pub mod segmentation;
 
 // A descriptor. The identifier of a reserved one stands beside it.
-#[derive(Drop)]
+#[derive(Clone, Copy)]
 pub enum Descriptor {
     Avail(AvailDescriptor),
     Dtmf(DTMFDescriptor),
@@ -28,7 +30,7 @@ pub enum Descriptor {
 }
 
 // A descriptor, or refusal 21, 23, 24 or 25.
-#[derive(Drop)]
+#[derive(Clone, Copy)]
 pub enum DescriptorRead {
     Is(Descriptor),
     Refused(Refusal),

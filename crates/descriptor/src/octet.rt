@@ -10,13 +10,13 @@ use table::cursor::{Cursor, Short, Taken};
 use table::numbers::wide;
 use upid::Refusal;
 
-#[derive(Drop)]
+#[derive(Clone, Copy)]
 pub(crate) struct Small {
     pub value: u8,
     pub next: Cursor,
 }
 
-#[derive(Drop)]
+#[derive(Clone, Copy)]
 pub(crate) enum Octet {
     Got(Small),
     Lacks(Short),

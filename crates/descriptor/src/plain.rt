@@ -9,18 +9,18 @@ use table::cursor::{Cursor, Passed, Skipped};
 use table::numbers::{big_endian, size};
 use upid::Refusal;
 
-#[derive(Drop)]
+#[derive(Clone, Copy)]
 pub struct AvailDescriptor {
     pub provider_avail_id: u32,
 }
 
-#[derive(Drop)]
+#[derive(Clone, Copy)]
 pub struct DTMFDescriptor {
     pub preroll: u8,
     pub dtmf_chars: View,
 }
 
-#[derive(Drop)]
+#[derive(Clone, Copy)]
 pub struct TimeDescriptor {
     pub tai_seconds: u64,
     pub tai_nanoseconds: u32,

@@ -17,7 +17,7 @@ use table::cursor::Short;
 use table::lent::view;
 use upid::{Refusal, UpidRead, check_upid};
 
-#[derive(Drop)]
+#[derive(Clone, Copy)]
 pub struct DeliveryRestrictions {
     pub web_delivery_allowed_flag: bool,
     pub no_regional_blackout_flag: bool,
@@ -25,14 +25,14 @@ pub struct DeliveryRestrictions {
     pub device_restrictions: DeviceRestrictions,
 }
 
-#[derive(Drop)]
+#[derive(Clone, Copy)]
 pub enum DeliveryRestrictionFlags {
     None,
     DeliveryRestrictions(DeliveryRestrictions),
 }
 
 // By components, with their count. The components themselves stand beside a descriptor.
-#[derive(Drop)]
+#[derive(Clone, Copy)]
 pub enum SegmentationMode {
     Program,
     Component(u8),
@@ -41,39 +41,39 @@ pub enum SegmentationMode {
 // A segmentation descriptor has at most so many components.
 pub const MAX_COMPONENTS: usize = 255;
 
-#[derive(Drop)]
+#[derive(Clone, Copy)]
 pub struct SegmentationComponent {
     pub component_tag: u8,
     pub pts_offset: u64,
 }
 
-#[derive(Drop)]
+#[derive(Clone, Copy)]
 pub enum SegmentationDuration {
     Absent,
     Ticks(u64),
 }
 
 // The type of a UPID and its bytes. None (type 0) and EIDR (type 10), whose bytes stand beside a descriptor, have the blank view.
-#[derive(Drop)]
+#[derive(Clone, Copy)]
 pub struct SegmentationUpid {
     pub upid_type: u8,
     pub bytes: View,
 }
 
-#[derive(Drop)]
+#[derive(Clone, Copy)]
 pub struct SubSegment {
     pub sub_segment_num: u8,
     pub sub_segments_expected: u8,
 }
 
-#[derive(Drop)]
+#[derive(Clone, Copy)]
 pub enum SubSegments {
     Absent,
     Is(SubSegment),
 }
 
 // The three flags say what their parts say.
-#[derive(Drop)]
+#[derive(Clone, Copy)]
 pub struct SegmentationDetail {
     pub program_segmentation_flag: bool,
     pub segmentation_duration_flag: bool,
@@ -88,20 +88,20 @@ pub struct SegmentationDetail {
     pub sub_segments: SubSegments,
 }
 
-#[derive(Drop)]
+#[derive(Clone, Copy)]
 pub enum DescriptorDetail {
     Cancel,
     Active(SegmentationDetail),
 }
 
-#[derive(Drop)]
+#[derive(Clone, Copy)]
 pub struct SegmentationDescriptor {
     pub segmentation_event_id: u32,
     pub descriptor_detail: DescriptorDetail,
 }
 
 // What a UPID is read as.
-#[derive(Drop)]
+#[derive(Clone, Copy)]
 enum UpidChecked {
     Is(SegmentationUpid),
     Refused(Refusal),
@@ -208,13 +208,13 @@ fn read_active(payload: &[u8], at: usize, event: u32) -> DescriptorRead
 }
 
 // The event and whether it is cancelled. They take five bytes.
-#[derive(Drop)]
+#[derive(Clone, Copy)]
 pub(crate) struct Headed {
     pub event: u32,
     pub cancel: bool,
 }
 
-#[derive(Drop)]
+#[derive(Clone, Copy)]
 pub(crate) enum HeadRead {
     Got(Headed),
     Lacks(Short),

@@ -1,4 +1,6 @@
 // Whether the bytes of a descriptor and of a loop are canonical (document 01, "Canonical form and writer"): a walk by byte places that writes nothing.
+#![tactic(auto)]
+
 ghost use Rattle.std.specs.Prelude.{◌≡◌, ◌<◌};
 ghost use Rattle.canonical_form.specs.Descriptor.{canonical_payload, canonical_descriptor, canonical_loop};
 

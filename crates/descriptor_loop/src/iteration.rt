@@ -105,7 +105,7 @@ pub fn step(descriptors: &[u8], offset: usize) -> Step
 }
 
 // How many items a loop has, or refusal 2.
-#[derive(Drop)]
+#[derive(Clone, Copy)]
 pub enum Counted {
     Are(usize),
     Refused(ItemRefusal),

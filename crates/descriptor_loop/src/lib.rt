@@ -1,4 +1,6 @@
 // The items of a descriptor loop (document 01, "Loop items"). Views count from the loop's first byte.
+#![tactic(auto)]
+
 use descriptor::Descriptor;
 use upid::Refusal;
 
@@ -13,14 +15,14 @@ pub const MAX_LOOP: usize = 4076;
 pub const MAX_DESCRIPTOR: usize = 254;
 
 // Refusals 2 and 21 to 25: 22, and those that a UPID has too.
-#[derive(Drop)]
+#[derive(Clone, Copy)]
 pub enum ItemRefusal {
     InvalidDescriptorLength,
     Other(Refusal),
 }
 
 // What stands at an offset of a loop.
-#[derive(Drop)]
+#[derive(Clone, Copy)]
 pub enum Item {
     End,
     Refused(ItemRefusal),
@@ -28,7 +30,7 @@ pub enum Item {
 }
 
 // An item, the identifier of a reserved descriptor (all zero with any other item), and the offset of the next item.
-#[derive(Drop)]
+#[derive(Clone, Copy)]
 pub struct Step {
     pub item: Item,
     pub identifier: [u8; 4],

@@ -8,7 +8,7 @@ use descriptor::DescriptorRead;
 use descriptor::full::{Beside, beside_of, blank_beside};
 
 // A step, and what stands beside its item: blank beside all but a segmentation descriptor.
-#[derive(Drop)]
+#[derive(Clone, Copy)]
 pub struct Reading {
     pub step: Step,
     pub beside: Beside,

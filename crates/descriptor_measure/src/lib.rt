@@ -1,4 +1,6 @@
 // What the descriptor writer makes of an item: the values that it refuses, and the bytes that it takes (document 01, "Canonical form and writer").
+#![tactic(auto)]
+
 ghost use Rattle.std.specs.Prelude.{◌≡◌};
 ghost use Rattle.descriptor_measure.specs.Writing.{all_zero, alone, writable_reserved};
 

@@ -1,5 +1,7 @@
 // The descriptor writer (document 01, "Canonical form and writer"): all tests first, in the order of the refusals' numbers, and then the stores, so that a
 // refused write changes no byte.
+#![tactic(auto)]
+
 ghost use Rattle.std.specs.Prelude.{[]};
 ghost use Rattle.descriptor.specs.Full.{filled};
 ghost use Rattle.descriptor_measure.specs.Writing.{descriptor_made};

@@ -6,7 +6,7 @@ use header_numbers::{NumbersRead, read_header_numbers};
 use names::algorithm::EncryptionAlgorithm;
 use names::command::SpliceCommandType;
 
-#[derive(Drop)]
+#[derive(Clone, Copy)]
 pub struct SpliceInfoHeader {
     pub protocol_version: u8,
     pub encrypted_packet: bool,
@@ -19,7 +19,7 @@ pub struct SpliceInfoHeader {
 }
 
 // A header, or refusal 5.
-#[derive(Drop)]
+#[derive(Clone, Copy)]
 pub enum HeaderRead {
     Header(SpliceInfoHeader),
     NoHeader,

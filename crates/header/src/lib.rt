@@ -1,2 +1,4 @@
 // The splice header.
+#![tactic(auto)]
+
 pub mod header;

@@ -1,11 +1,13 @@
 // The numbers of a splice header, as they stand in its eleven bytes: none of them is named here. `header` names algorithm and type, the C boundary takes them
 // as they are, and neither takes the bytes apart again.
+#![tactic(auto)]
+
 ghost use Rattle.std.specs.Prelude.{◌≡◌};
 ghost use Rattle.header_numbers.specs.Numbers.{numbers_read};
 
 use table::numbers::{big_endian, time33, wide};
 
-#[derive(Drop)]
+#[derive(Clone, Copy)]
 pub struct HeaderNumbers {
     pub protocol_version: u8,
     pub encrypted_packet: bool,
@@ -18,7 +20,7 @@ pub struct HeaderNumbers {
 }
 
 // The numbers, or refusal 5.
-#[derive(Drop)]
+#[derive(Clone, Copy)]
 pub enum NumbersRead {
     Numbers(HeaderNumbers),
     NoHeader,

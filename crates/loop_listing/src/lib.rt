@@ -1,4 +1,6 @@
 // Lists the items of a descriptor loop, a line for each: offset, bytes used, a word, values (document 01, `looplist`).
+#![tactic(auto)]
+
 ghost use Rattle.std.specs.Prelude.{◌≤◌, length};
 
 use descriptor::Descriptor;

@@ -2,7 +2,7 @@
 ghost use Rattle.std.specs.Prelude.{◌≡◌};
 ghost use Rattle.names.specs.Algorithm.{algorithm_of, algorithm_number, writable_algorithm};
 
-#[derive(Drop)]
+#[derive(Clone, Copy)]
 pub enum EncryptionAlgorithm {
     None,
     DesEcb,

@@ -2,7 +2,7 @@
 ghost use Rattle.std.specs.Prelude.{◌≡◌};
 ghost use Rattle.names.specs.Command.{command_type_of, command_number, writable_command};
 
-#[derive(Drop)]
+#[derive(Clone, Copy)]
 pub enum SpliceCommandType {
     SpliceNull,
     SpliceSchedule,

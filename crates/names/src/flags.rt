@@ -4,13 +4,13 @@ ghost use Rattle.names.specs.Flags.{network_flag, network_of, network_answer, re
 ghost use Rattle.names.specs.Flags.{restrictions_bits, restrictions_of, restrictions_answer};
 
 // out_of_network_indicator
-#[derive(Drop)]
+#[derive(Clone, Copy)]
 pub enum NetworkIndicator {
     In,
     Out,
 }
 
-#[derive(Drop)]
+#[derive(Clone, Copy)]
 pub enum NetworkRead {
     Is(NetworkIndicator),
     Refused,
@@ -38,13 +38,13 @@ impl NetworkIndicator {
 }
 
 // auto_return
-#[derive(Drop)]
+#[derive(Clone, Copy)]
 pub enum ReturnMode {
     Manual,
     Automatic,
 }
 
-#[derive(Drop)]
+#[derive(Clone, Copy)]
 pub enum ReturnRead {
     Is(ReturnMode),
     Refused,
@@ -72,7 +72,7 @@ impl ReturnMode {
 }
 
 // device_restrictions
-#[derive(Drop)]
+#[derive(Clone, Copy)]
 pub enum DeviceRestrictions {
     RestrictGroup0,
     RestrictGroup1,
@@ -80,7 +80,7 @@ pub enum DeviceRestrictions {
     None,
 }
 
-#[derive(Drop)]
+#[derive(Clone, Copy)]
 pub enum RestrictionsRead {
     Is(DeviceRestrictions),
     Refused,

@@ -2,7 +2,7 @@
 ghost use Rattle.std.specs.Prelude.{◌≡◌};
 ghost use Rattle.names.specs.Segmentation.{segmentation_type_of, segmentation_number, writable_segmentation};
 
-#[derive(Drop)]
+#[derive(Clone, Copy)]
 pub enum SegmentationTypeId {
     NotIndicated,
     ContentIdentification,

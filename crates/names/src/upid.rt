@@ -2,7 +2,7 @@
 ghost use Rattle.std.specs.Prelude.{◌≡◌};
 ghost use Rattle.names.specs.Upid.{upid_type_of, upid_type_number, writable_upid_type};
 
-#[derive(Drop)]
+#[derive(Clone, Copy)]
 pub enum SegmentationUpidType {
     NotUsed,
     UserDefinedDeprecated,

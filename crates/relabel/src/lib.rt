@@ -1,5 +1,7 @@
 // One identifier of a section replaced, and every length around it and the CRC mended. All tests come first, in the order of the refusals, and then the stores,
 // so that a refused write changes no byte.
+#![tactic(auto)]
+
 ghost use Rattle.std.specs.Prelude.{◌≡◌, [], ◌∷◌, ◌+◌, ◌-◌, ◌<◌, ◌≤◌, length, get_or};
 ghost use Rattle.bit_stores.specs.Written.{answer_of, later_of};
 ghost use Rattle.relabel_joined.specs.Relabel.{type_then};
@@ -20,7 +22,7 @@ use table::numbers::size;
 use table::store::{put_bytes, put_number};
 
 // Where the identifier lies in the section: its loop with the loop's length, the item, the head of the item's UPID, and what stands after the UPID.
-#[derive(Drop)]
+#[derive(Clone, Copy)]
 struct Place {
     list: usize,
     len: usize,

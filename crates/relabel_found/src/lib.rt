@@ -1,4 +1,6 @@
 // Where an identifier stands that is to be replaced: the item at an offset of a loop, and the UPID's head in its payload.
+#![tactic(auto)]
+
 ghost use Rattle.std.specs.Prelude.{◌≡◌, ◌+◌, ◌*◌, ◌/◌, ◌%◌, ◌<◌, ◌≤◌, eqb, length};
 ghost use Rattle.table.specs.Bits.{pick};
 ghost use Rattle.descriptor_loop.specs.Items.{step_of, items_of};

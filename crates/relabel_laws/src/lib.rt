@@ -1,1 +1,3 @@
 // The theorems of crate relabel.
+#![tactic(auto)]
+

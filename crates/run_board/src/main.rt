@@ -1,5 +1,7 @@
 // Breaks of two channels opened and closed, one channel through the wrap: its next id is 4,294,967,290 at the start. The file `stdout` is what two plain
 // lists say (host/board-expected).
+#![tactic(auto)]
+
 use board::{Answer, Refusal};
 use channels::{Reply, SharedBoard, close_break, empty, open_break};
 

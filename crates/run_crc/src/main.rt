@@ -1,5 +1,7 @@
 // Both forms of the CRC on the messages of standard input, one to a line in hexadecimal, and on generated ones. The file `stdout` is
 // what another program says of them (host/crc-expected).
+#![tactic(auto)]
+
 ghost use Rattle.std.specs.Prelude.{◌≡◌, ◌<◌, length};
 
 // A message's length and its CRC, by `crc32` and by `crc32_plain`.

@@ -1,6 +1,8 @@
 // The lines of standard input, numbered from 1 on, and what each says, or its refusal; then the line that is written of the section, ID and date that it has,
 // or that refusal. A line that begins with + or - is none of a playlist: the section that was read last is written with the rest of the line as its ID, or
 // as its date. The file `stdout` is what the host's own reader and writer say (host/daterange gate).
+#![tactic(auto)]
+
 ghost use Rattle.std.specs.Prelude.{◌≤◌, length};
 
 use bit_stores::Written;

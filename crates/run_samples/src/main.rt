@@ -1,5 +1,7 @@
 // What the section reader says of the sections of standard input, one to a line in hexadecimal. The file `stdout` holds the values
 // that are stated of the samples (host/samples-expected).
+#![tactic(auto)]
+
 ghost use Rattle.std.specs.Prelude.{◌<◌};
 
 use command::SpliceCommand;

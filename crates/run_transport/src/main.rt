@@ -1,6 +1,8 @@
 // The sections of the packets of standard input, of PID 500. For each packet its number from 0 on and what it is answered: a line for each section
 // that it finishes, in hexadecimal, and then how many bytes of a section are under way; or its refusal. The file `stdout` is what the host's own
 // assembler says (host/packets gate).
+#![tactic(auto)]
+
 ghost use Rattle.std.specs.Prelude.{◌<◌, ◌≤◌};
 
 use table::numbers::wide;

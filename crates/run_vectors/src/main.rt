@@ -2,6 +2,8 @@
 // 3 for a UPID (its type follows). The file `stdout` is what scte35-reader 0.16.0 says of them, every field of every answer, so that running this
 // program compares the two. `host/vectors` makes both files; every refusal of a reader and every kind of item is among the inputs, and
 // those are left out whose answers differ as docs/DIFFERENCES.md says in 1 to 3. Refusals 1 and 2, which the crate does not have, are as the rules say.
+#![tactic(auto)]
+
 ghost use Rattle.std.specs.Prelude.{◌<◌};
 
 use section::{SectionRead, loop_of, read_section};

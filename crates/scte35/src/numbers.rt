@@ -16,7 +16,7 @@ use names::segmentation::SegmentationTypeId;
 use names::upid::SegmentationUpidType;
 
 #[repr(C)]
-#[derive(Drop)]
+#[derive(Clone, Copy)]
 pub struct FlatNumber {
     pub refusal: u64,
     pub class: u64,

@@ -8,7 +8,7 @@ use command::components::{InsertComponent, MAX_COMPONENTS, blanks, read_componen
 use table::lent::view;
 
 // The components are blank past their count, and all of them where the command is no insert by components.
-#[derive(Drop)]
+#[derive(Clone, Copy)]
 pub struct FullSection {
     pub read: SectionRead,
     pub components: [InsertComponent; MAX_COMPONENTS],

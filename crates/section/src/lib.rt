@@ -1,4 +1,6 @@
 // A section: header, command, and the place of its descriptor loop.
+#![tactic(auto)]
+
 ghost use Rattle.std.specs.Prelude.{◌≡◌, ◌+◌, ◌*◌, ◌<◌, ◌≤◌, length, drop};
 ghost use Rattle.section.specs.Section.{command_length, command_type, command_bytes, frame_in, moved, moved_read, accepted, frame_of, section_of, number_of, private_view};
 ghost use Rattle.section.specs.declared.SectionRead.{SectionRead};
@@ -29,7 +31,7 @@ pub const COMMAND_TYPE_AT: usize = 13;
 pub const COMMAND_AT: usize = 14;
 
 // What a section says. Views count from its first byte; the items of the loop are read one step at a time. The payload is the command's.
-#[derive(Drop)]
+#[derive(Clone, Copy)]
 pub struct Section {
     pub header: SpliceInfoHeader,
     pub command: SpliceCommand,
@@ -38,7 +40,7 @@ pub struct Section {
 }
 
 // Refusals 1 to 11, in their order.
-#[derive(Drop)]
+#[derive(Clone, Copy)]
 pub enum Refusal {
     SectionTooShort,
     InputTooLong,
@@ -75,20 +77,20 @@ impl Refusal {
 }
 
 // Where the two parts lie whose lengths a section says: the command's payload, and the loop.
-#[derive(Drop)]
+#[derive(Clone, Copy)]
 pub struct Frame {
     pub command: View,
     pub descriptors: View,
 }
 
 // Where the parts lie; or refusals 1 to 9, those that come before the command.
-#[derive(Drop)]
+#[derive(Clone, Copy)]
 pub enum FrameRead {
     Is(Frame),
     Refused(Refusal),
 }
 
-#[derive(Drop)]
+#[derive(Clone, Copy)]
 pub enum SectionRead {
     Is(Section),
     Refused(Refusal),

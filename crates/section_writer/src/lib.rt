@@ -1,4 +1,6 @@
 // The section writer: header, command and loop as a section's bytes.
+#![tactic(auto)]
+
 ghost use Rattle.std.specs.Prelude.{◌≡◌, true, [], ◌+◌, ◌^◌, ◌<◌, ◌≤◌, length, take};
 ghost use Rattle.section_writer.specs.Frame.{head, numbers_fit, writable_head};
 ghost use Rattle.section.specs.Section.{section_length, first, frame_of};

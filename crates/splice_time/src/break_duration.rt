@@ -9,26 +9,26 @@ use names::flags::ReturnMode;
 use table::cursor::Short;
 use table::numbers::{time33, wide};
 
-#[derive(Drop)]
+#[derive(Clone, Copy)]
 pub struct SpliceDuration {
     pub return_mode: ReturnMode,
     pub duration: u64,
 }
 
-#[derive(Drop)]
+#[derive(Clone, Copy)]
 pub enum Break {
     Absent,
     Lasts(SpliceDuration),
 }
 
 // A duration and the place of the byte after it: it starts and ends with a byte.
-#[derive(Drop)]
+#[derive(Clone, Copy)]
 pub struct Broken {
     pub duration: Break,
     pub next: usize,
 }
 
-#[derive(Drop)]
+#[derive(Clone, Copy)]
 pub enum BreakRead {
     Got(Broken),
     Lacks(Short),

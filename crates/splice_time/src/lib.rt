@@ -1,4 +1,6 @@
 // splice_time() and the adjusted time.
+#![tactic(auto)]
+
 ghost use Rattle.std.specs.Prelude.{◌≡◌, ◌*◌};
 ghost use Rattle.splice_time.specs.Time.{splice_time, time_read, adjusted_of};
 ghost use Rattle.table.specs.Bits.{bits_of};
@@ -10,7 +12,7 @@ use table::numbers::time33;
 pub mod break_duration;
 
 // When a splice takes place: at once, at a time that is not specified, or at a time in ticks of 90 kHz.
-#[derive(Drop)]
+#[derive(Clone, Copy)]
 pub enum SpliceTime {
     Immediate,
     Unspecified,
@@ -18,13 +20,13 @@ pub enum SpliceTime {
 }
 
 // A time and the cursor after it.
-#[derive(Drop)]
+#[derive(Clone, Copy)]
 pub struct Timed {
     pub time: SpliceTime,
     pub next: Cursor,
 }
 
-#[derive(Drop)]
+#[derive(Clone, Copy)]
 pub enum TimeRead {
     Got(Timed),
     Lacks(Short),
@@ -66,7 +68,7 @@ pub fn read_aligned_time(s: &[u8], at: usize) -> TimeRead
 }
 
 // A time with its adjustment, none where no time is specified, or refusal 32.
-#[derive(Drop)]
+#[derive(Clone, Copy)]
 pub enum AdjustedTime {
     At(u64),
     Nothing,

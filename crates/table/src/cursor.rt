@@ -8,57 +8,57 @@ use crate::View;
 use crate::numbers::bits;
 
 // Bit `bit` of byte `byte`.
-#[derive(Drop)]
+#[derive(Clone, Copy)]
 pub struct Cursor {
     pub byte: usize,
     pub bit: usize,
 }
 
 // Refusal 21: not enough data.
-#[derive(Drop)]
+#[derive(Clone, Copy)]
 pub struct Short {
     pub expected: usize,
     pub actual: usize,
 }
 
 // What a step read, and the cursor after it.
-#[derive(Drop)]
+#[derive(Clone, Copy)]
 pub struct Number {
     pub value: u64,
     pub next: Cursor,
 }
 
-#[derive(Drop)]
+#[derive(Clone, Copy)]
 pub struct Flag {
     pub set: bool,
     pub next: Cursor,
 }
 
-#[derive(Drop)]
+#[derive(Clone, Copy)]
 pub struct Run {
     pub bytes: View,
     pub next: Cursor,
 }
 
-#[derive(Drop)]
+#[derive(Clone, Copy)]
 pub enum Taken {
     Got(Number),
     Lacks(Short),
 }
 
-#[derive(Drop)]
+#[derive(Clone, Copy)]
 pub enum Flagged {
     Got(Flag),
     Lacks(Short),
 }
 
-#[derive(Drop)]
+#[derive(Clone, Copy)]
 pub enum Skipped {
     Got(Cursor),
     Lacks(Short),
 }
 
-#[derive(Drop)]
+#[derive(Clone, Copy)]
 pub enum Passed {
     Got(Run),
     Lacks(Short),

@@ -1,1 +1,3 @@
 // The demands over the C boundary, as theorems.
+#![tactic(auto)]
+

@@ -1,1 +1,3 @@
 // Of every public function which definition it answers.
+#![tactic(auto)]
+

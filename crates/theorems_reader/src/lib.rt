@@ -1,1 +1,3 @@
 // The demands on reading, as theorems.
+#![tactic(auto)]
+

@@ -1,1 +1,3 @@
 // The demands on writing, as theorems.
+#![tactic(auto)]
+

@@ -2,6 +2,8 @@
 //
 // For each packet: `feed`, and then `take` until it says that it is done. The caller lends the packet and a buffer of 4,096 bytes, and keeps
 // the state, a small value. A section that was taken stands at the buffer's start until the next call.
+#![tactic(auto)]
+
 ghost use Rattle.std.specs.Prelude.{◌≡◌, ◌≤◌, length, take, drop};
 ghost use Rattle.transport.specs.Step.{follows, before};
 ghost use Rattle.transport.specs.Assembler.{fresh_assembler, holding, under_for, fed_by, fed_of, giving, complete_in, found, taken_from, taken_of};
@@ -15,7 +17,7 @@ pub mod under;
 
 // The counter of the last packet with payload (16 and more: there was none yet), how many bytes of a section stand in the buffer, and the
 // place in the packet from which sections are still to be taken.
-#[derive(Drop)]
+#[derive(Clone, Copy)]
 pub struct Assembler {
     pub pid: usize,
     pub counter: usize,
@@ -24,14 +26,14 @@ pub struct Assembler {
 }
 
 // The state from which a packet's sections are taken, or a refusal, with which the state before it stays.
-#[derive(Drop)]
+#[derive(Clone, Copy)]
 pub enum Fed {
     Is(Assembler),
     Refused(Refusal),
 }
 
 // A section: so many bytes at the buffer's start. Or nothing is left of this packet.
-#[derive(Drop)]
+#[derive(Clone, Copy)]
 pub enum Taken {
     Section(usize, Assembler),
     Done(Assembler),
@@ -157,7 +159,7 @@ pub fn feed(a: Assembler, packet: &[u8], buffer: &mut [u8]) -> Fed
 
 // What is found for `take`, in numbers, which the compiler keeps in registers: a section of so many bytes (0: nothing is left of this packet), and
 // the bytes under way and the place in the packet behind it.
-#[derive(Drop)]
+#[derive(Clone, Copy)]
 struct Found {
     size: usize,
     held: usize,

@@ -5,7 +5,7 @@ ghost use Rattle.transport_packet.specs.Packet.{head_of, payload_at};
 use table::numbers::size;
 
 // Refusals 71 to 75.
-#[derive(Drop)]
+#[derive(Clone, Copy)]
 pub enum Refusal {
     NotAPacket,
     OtherPid,
@@ -15,7 +15,7 @@ pub enum Refusal {
 }
 
 // What a packet brings: its payload's bytes stand from `at` on, and from `first` on those of the sections that begin in it (188 where none does).
-#[derive(Drop)]
+#[derive(Clone, Copy)]
 pub enum Head {
     Refused(Refusal),
     NoPayload,

@@ -4,7 +4,7 @@ ghost use Rattle.transport_packet.specs.Sections.{next_by, next_of, cut};
 
 // What stands where a section would begin: no byte or stuffing; a section_length over 4,093; a section that goes on behind the bytes; or a
 // complete one, of so many bytes.
-#[derive(Drop)]
+#[derive(Clone, Copy)]
 pub enum Next {
     Nothing,
     Long,

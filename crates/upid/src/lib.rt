@@ -1,4 +1,6 @@
 // UPIDs: what a segmentation descriptor says its segment is (document 01, "Identifiers").
+#![tactic(auto)]
+
 ghost use Rattle.std.specs.Prelude.{◌≡◌};
 ghost use Rattle.table.specs.Lent.{viewed};
 ghost use Rattle.upid.specs.Upid.{check_of, upid_of, eidr_of, part_view};
@@ -22,7 +24,7 @@ pub const UPID_EIDR: u8 = 10;
 pub const UPID_MID: u8 = 13;
 
 // Refusals 2, 21, 23, 24 and 25. A view counts from the start of the UPID.
-#[derive(Drop)]
+#[derive(Clone, Copy)]
 pub enum Refusal {
     InputTooLong,
     NotEnoughData {
@@ -42,14 +44,14 @@ pub enum Refusal {
 }
 
 // What a UPID is read as: its reported type, or the first refusal.
-#[derive(Drop)]
+#[derive(Clone, Copy)]
 pub enum UpidRead {
     Fine(u8),
     Refused(Refusal),
 }
 
 // A part of a MID: its reported type, its level (1 for the direct parts of the top MID), and its payload, `len` bytes from `start` of the top UPID on.
-#[derive(Drop)]
+#[derive(Clone, Copy)]
 pub struct Part {
     pub upid_type: u8,
     pub level: u8,
@@ -58,14 +60,14 @@ pub struct Part {
 }
 
 // The parts of a MID, each before those inside it; all zero past the count.
-#[derive(Drop)]
+#[derive(Clone, Copy)]
 pub struct PartList {
     pub parts: [Part; MAX_PARTS],
     pub count: usize,
 }
 
 // The whole answer: an EIDR by value, all zero where the UPID is no EIDR, and a MID's parts.
-#[derive(Drop)]
+#[derive(Clone, Copy)]
 pub struct Upid {
     pub read: UpidRead,
     pub eidr: [u8; 12],

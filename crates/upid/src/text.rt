@@ -5,7 +5,7 @@ ghost use Rattle.upid.specs.Text.{wants, characters, begin, step, text_of};
 ghost use Rattle.upid.specs.Private.{meaning};
 
 // Where a reading stands after some bytes.
-#[derive(Drop)]
+#[derive(Clone, Copy)]
 enum Stand {
     // Between two characters.
     Between,
