@@ -38,6 +38,8 @@ module _ (κ : Lfts 0) where
 run_agrees : (κ : Lfts 0) (calls : List Call) (b : Board) (l : Breaks) (heard : List Answer) (z : Board) → Reads b l → Run (Does κ) b calls heard z → heard ≡ list_answers 32 calls l
 unfolding list_answers
 run_agrees κ [] b l [] z r nothing = refl
+run_agrees κ [] b l (a ∷ heard) z r x = elim x [ ]
+run_agrees κ (c ∷ cs) b l [] z r x = elim x [ ]
 run_agrees κ (c ∷ cs) b l (a ∷ heard) z r (then s d w) =
     let g : Agrees (step_of c b) (told_of 32 c l).answer (told_of 32 c l).breaks = call_agrees c b l r in
     let e : s ≡ step_of c b = does_one κ c b s d in
@@ -173,6 +175,8 @@ is_one x y e = cc
 stands : (κ : Lfts 0) (calls : List Call) (b : Board) (heard : List Answer) (z : Board) (id provider : ℕ) → Typed b → under id (held b) ≡ provider ∷ [] → leaves id calls ≡ true → Run (Does κ) b calls heard z
     → Typed z × (under id (held z) ≡ provider ∷ [])
 stands κ [] b [] z id provider t u n nothing = (t, u)
+stands κ [] b (a ∷ heard) z id provider t u n x = elim x [ ]
+stands κ (c ∷ cs) b [] z id provider t u n x = elim x [ ]
 stands κ (c ∷ cs) b (a ∷ heard) z id provider t u n (then s d w) =
     stands κ cs s.board heard z id provider (typed κ c b s t d) (one_stands κ c b s id provider t u (left_first id c cs n) d) (left_rest id c cs n) w
 

@@ -1,0 +1,26 @@
+-- `writable` meets its contract: a name's own number stands for it, and for any other value the classes are compared.
+use mathlib.Core.Path.{ap}
+use denote.Enum.Declared.{tag_of}
+use borrow.Enum.Refused.{opened}
+use borrow.Author.Rules.{rules}
+use Rattle.names.specs.Numbering.{class_in, reserved}
+use Rattle.names.specs.Segmentation.{segmentations, segmentation_type_of, writable_segmentation}
+use Rattle.names.specs.declared.segmentation.SegmentationTypeId.TheVariants.{Reserved}
+use Rattle.names.proofs.Laws.{writable_by, own_name, name_writable}
+use Rattle.names.proofs.Segmentations.{sound}
+use Rattle.names.specs.contracts.segmentation.SegmentationTypeId.{the_type}
+use Rattle.names.proofs.segmentation.SegmentationTypeId.writable.Goals as goal
+
+pub returns-in-Reserved-own : goal.returns-in-Reserved-own
+unfolding segmentation_type_of writable_segmentation
+returns-in-Reserved-own c =
+    rw c.in-Reserved.is (writable_by segmentations (Reserved c.in-Reserved.n) _ reserved (ap (class_in segmentations) c.in-Reserved-own.is) c.from_id-own.ensures)
+
+pub returns-in_default-own : goal.returns-in_default-own
+unfolding segmentation_type_of writable_segmentation
+returns-in_default-own c =
+    rw c.in-Reserved.is (own_name segmentations (tag_of the_type) sound (Reserved c.in-Reserved.n) _ c.from_id-own.ensures (opened c.in_default-own.in_default-own-own.keys2))
+
+pub returns-in_default : goal.returns-in_default
+unfolding segmentation_type_of writable_segmentation
+returns-in_default c = name_writable segmentations (tag_of the_type) sound c.args.self (opened c.in_default.in_default-own.keys2)

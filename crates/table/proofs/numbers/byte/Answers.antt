@@ -1,0 +1,8 @@
+-- `table::numbers::byte` meets its contract.
+use mathlib.Core.Path.{sym}
+use lib.ListN.{get_or-eq_default}
+use borrow.Author.Rules.{rules}
+use Rattle.table.proofs.numbers.byte.Goals as goal
+
+pub returns-else-at-s : goal.returns-else-at-s
+returns-else-at-s c = sym (get_or-eq_default c.args.s.now 0 c.if-at-s.false)
