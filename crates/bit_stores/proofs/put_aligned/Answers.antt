@@ -21,5 +21,5 @@ returns-then-out-at-2 c =
 pub returns : goal.returns
 returns c =
     let a = c.args in
-    let r = pens_number a.out.now a.at a.n a.v (bytes_all a.out.now (λ k. (c.type_inv.out k).fits)) (omega arith) in
+    let r = pens_number a.out.now a.at a.n a.v (bytes_all a.out.now (λ k. (c.slice_known-1.given k).fits)) (omega arith) in
     record { bytes = c.put_number.ensures ∙ r.bytes; cursor = r.cursor }

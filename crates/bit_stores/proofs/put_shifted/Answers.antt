@@ -12,11 +12,6 @@ use Rattle.bit_stores.proofs.Penned.{length_penned}
 use Rattle.bit_stores.proofs.Tables.{pens_nil, pens_byte, pens_same}
 use Rattle.bit_stores.proofs.put_shifted.Goals as goal
 
-kept : (c : goal.At-loop-i) → length c.loop-i.out ≡ length c.args.out.now
-kept c =
-    let a = c.args in
-    ap length c.loop-i.invariant.1.bytes ∙ length_penned a.out.now (place a.c) (bits_of (take c.loop-i.i a.src.now))
-
 pub loop-i-init : goal.loop-i-init
 loop-i-init c =
     (omega arith, pens_nil c.args.out.now c.args.c c.requires.0 c.requires.1 (omega (arith, c.requires.2)))
@@ -43,7 +38,7 @@ loop-i-preserved c =
     (omega arith, stored)
 
 pub shape_of-out : goal.shape_of-out
-shape_of-out c = kept c
+shape_of-out c = (let it : length c.loop-i.out ≡ length c.args.out.now = let a = c.args in ap length c.loop-i.invariant.1.bytes ∙ length_penned a.out.now (place a.c) (bits_of (take c.loop-i.i a.src.now)) in it)
 
 pub returns : goal.returns
 returns c =

@@ -5,6 +5,7 @@ use Rattle.channels.proofs.Views.{count_used, count_free, count_ends}
 use Rattle.channels.proofs.count.Reads as reads
 use Rattle.channels.proofs.count.Lts as lts
 use Rattle.channels.proofs.count.Goals as goal
+use Rattle.channels.proofs.count.Goals.{then-p, else-p}
 
 -- src/lib.rt:73:5
 pub loop-i-init : goal.loop-i-init
@@ -15,10 +16,10 @@ pub loop-i-preserved : goal.loop-i-preserved
 loop-i-preserved c =
     let ps = c.args.places in
     let h : c.loop-i.i < length ps = search rules in
-    ⊎_elim
-    (λ w. omega (arith, c.loop-i-test.true, count_used ps c.loop-i.i h w.0.taken))
-    (λ w. omega (arith, c.loop-i-test.true, count_free ps c.loop-i.i h w.0.left))
-    c.if-p.branch
+    elim c.if-p.branch [
+      then-p w ↦ omega (arith, c.loop-i-test.true, w.n-is, count_used ps c.loop-i.i h w.if-p.true)
+    | else-p w ↦ omega (arith, c.loop-i-test.true, w.n-is, count_free ps c.loop-i.i h w.if-p.false)
+    ]
 
 -- src/lib.rt:68:1
 pub returns : goal.returns
