@@ -21,6 +21,9 @@ import sys
 
 ROOT = os.path.dirname(os.path.dirname(os.path.abspath(__file__)))
 LANDED = "26ecacd897b9447c6c9c96a7d22ddd7765263faf"
+# words of comments: a word of the kit, and a theorem that had its name no longer when the tree landed
+SAID = {"getD": "get_or", "a-canonical-item-over-c-is-written-back": "the_items_of_a_canonical_section_over_c_are_written_back"}
+OLD = re.compile(r"(?<![\w'.])[a-z][\w']*(?:[A-Z]|-)[\w'-]*|[«»⌜⌝·′]|(?<=\S) \.[a-z]|_[+*≡≤<&|∷]+_|the-variants")
 EDIT = re.compile(r"crates/([^/]+)/(must-fail|tried)/[^/]+\.edit$")
 TOKEN = re.compile(r"\s+|[\w'′₀-₉«»⟨⟩-]+|.", re.S)
 WORD = r'[^\s(){}.;,@"«»]+'
@@ -156,6 +159,8 @@ class Comments:
 
     def one(self, m):
         w = m[0]
+        if w in SAID:
+            return SAID[w]
         if not re.search(r"[a-z][A-Z]|\w-\w|′", w) or re.match(r"returns-\d+$", w) or w[0].isupper() or w not in self.old:
             return w
         return self.names.get(w) or (self.snake(w) if self.snake(w) in self.today else w)
@@ -273,6 +278,15 @@ def main_write(scratch, formatted, table):
     names = dict(line.split() for line in read(table).splitlines())
     module, tree = respell(), landed()
     comments = Comments(names, tree, module)
+    # what a wrong library declares itself
+    old = set().union(*({m[1] for m in DECLARED.finditer(QUIET.sub(" ", t))} for p, t in tree.items() if p.endswith(".antt")))
+    for it in json.loads(read(f"{scratch}/index.json")):
+        if it["file"].endswith(".antt"):
+            for m in DECLARED.finditer(QUIET.sub(" ", read(f"{scratch}/crates/{it['crate']}/{it['version']}"))):
+                w = m[1]
+                if w not in old and w not in names and w[0].islower() and re.search(r"[A-Z]|-|′", w):
+                    names[w] = module.snake(w)
+                    print("own:", w, names[w])
 
     def turned(crate, file, at, top=scratch):
         p, text = f"{ROOT}/crates/{crate}/{file}", read(f"{top}/crates/{crate}/{at}")
@@ -339,6 +353,8 @@ def merged(today, o, v):
     """today's file with what makes v of o, or what is in the way"""
     import tempfile
 
+    head, tactic, _ = today.partition("#![tactic(auto)]\n\n")
+    o, v = (head + tactic + t[len(head) :] if t.startswith(head) else t for t in (o, v))
     with tempfile.TemporaryDirectory() as d:
         for name, text in (("today", today), ("o", o), ("v", v)):
             write(f"{d}/{name}", text)
@@ -346,10 +362,59 @@ def merged(today, o, v):
         return run.stdout, f"{run.returncode} conflicts" if run.returncode else None
 
 
+def fits(p, text):
+    """what is wrong with an edit as it stands, or None"""
+    texts = {}
+    for file, old, new in pairs(text):
+        at = f"{ROOT}/crates/{EDIT.match(p)[1]}/{file}"
+        t = texts.get(file) or read(at)
+        if t.count(old) != 1 or old == new:
+            return f"the old text stands {t.count(old)} times in {file}: {old}"
+        texts[file] = t.replace(old, new)
+    return None if texts else "no pair"
+
+
+def verify():
+    tree, wrong, goals = landed(), [], collections.Counter()
+    today = git("ls-files", "--cached", "--others", "--exclude-standard", "crates", "wrong").splitlines()
+    kept = {p for p in tree if EDIT.match(p) or p.startswith("wrong/")}
+    here = {p for p in today if (EDIT.match(p) or p.startswith("wrong/")) and os.path.exists(f"{ROOT}/{p}")}
+    wrong += [f"{p}: gone" for p in sorted(kept - here)] + [f"{p}: new" for p in sorted(here - kept)]
+    for p in sorted(kept & here):
+        text = read(f"{ROOT}/{p}")
+        if p.endswith(".edit"):
+            why = fits(p, text)
+            wrong += [f"{p}: {why}"] if why else []
+            old = pairs(tree[p])
+            if [x[0] for x in old] != [x[0] for x in pairs(text)]:
+                wrong.append(f"{p}: {len(old)} pairs, and {len(pairs(text))} today")
+        elif subprocess.run(["git", "-C", ROOT, "apply", "--check", p], capture_output=True).returncode:
+            wrong.append(f"{p}: can't be applied")
+        if len([x for x in text.split("\n") if re.match("#|rule:", x)]) != len([x for x in tree[p].split("\n") if re.match("#|rule:", x)]):
+            wrong.append(f"{p}: another number of comments")
+        head = p.endswith(".diff")
+        for line in text.split("\n"):
+            head = head and not line.startswith("diff --git ")
+            if re.match(r"(# ?)?rule:|diff --git |index ", line):
+                continue
+            for m in OLD.finditer(line):
+                if head or line.startswith("#"):
+                    goals[m[0]] += 1
+                elif line[:1] != " ":
+                    wrong.append(f"{p}: {m[0]} in {line}")
+    for line in wrong:
+        print(line)
+    print("left in comments, as names of goals or as words:", " ".join(f"{w}({n})" for w, n in sorted(goals.items())))
+    print(f"{sum(p.endswith('.edit') for p in here)} edits, {sum(p.endswith('.diff') for p in here)} wrong libraries, {len(wrong)} remarks")
+    return 1 if wrong else 0
+
+
 if __name__ == "__main__":
     if sys.argv[1:2] == ["prepare"]:
         prepare(sys.argv[2])
     elif sys.argv[1:2] == ["write"]:
         main_write(*sys.argv[2:5])
+    elif sys.argv[1:2] == ["verify"]:
+        sys.exit(verify())
     else:
         sys.exit(__doc__)
