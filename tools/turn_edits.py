@@ -299,7 +299,7 @@ def main_write(scratch, formatted, table):
     for p in sorted(p for p in tree if EDIT.match(p) and p not in BY_HAND):
         crate, text = EDIT.match(p)[1], tree[p]
         head = [comments.turn(line) for line in text.split("\n") if line.startswith("#")]
-        body = [line for line in text.split("\n") if not line.startswith("#")]
+        body = [line.replace("#[no_mangle]", "#[unsafe(no_mangle)]") for line in text.split("\n") if not line.startswith("#")]
         if p in versions:
             body, file_said = [], None
             for (c, file), at in versions[p].items():
