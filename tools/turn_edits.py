@@ -222,6 +222,10 @@ def piece(text, o, v, hint=None):
     lo, hi = pre, len(o) - post
     if hint:
         lo, hi = min(lo, hint[0]), max(hi, hint[1])
+    while lo > 0 and o[lo - 1] == "(" and o[lo:hi].count(")") > o[lo:hi].count("("):
+        lo -= 1
+    while lo > 0 and (hi - lo < 8 or o[lo - 1] not in " (" or o[lo:hi][:1] in ", "):
+        lo = [c for c in cuts if c < lo][-1]
     while True:
         old = o[lo:hi]
         trim = old != old.strip() and (lo > 0 or hi < len(o))
