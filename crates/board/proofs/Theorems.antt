@@ -1,5 +1,5 @@
 -- What Q-7 asks for, of the functions' contracts as the checker makes them.
-use Rattle.std.proofs.Common.{◌≡◌, ℕ, suc, ◌+◌, ◌%◌, ◌<◌, ◌≤◌, Bool, true, false, not, ◌&&◌, eqb, leb, List, [], ◌∷◌, ◌++◌, length, get_or, set, sym, refl, ap, ◌∙◌, ap₂, append-nil, arith, length-set, eq-eqb, ne_eqb, le-leb, leb-false, leb-true}
+use Rattle.std.proofs.Common.{subst, ◌≡◌, ℕ, suc, ◌+◌, ◌%◌, ◌<◌, ◌≤◌, Bool, true, false, not, ◌&&◌, eqb, leb, List, [], ◌∷◌, ◌++◌, length, get_or, set, sym, refl, ap, ◌∙◌, ap₂, append-nil, arith, length-set, eq-eqb, ne_eqb, le-leb, leb-false, leb-true}
 use borrow.Author.Tests.{lt-leb}
 use contract.Lifetimes.{Lfts}
 use Rattle.board.specs.Breaks.{Break, Breaks, no_breaks, under, is_open, provider_of, free_from, after}
@@ -44,7 +44,7 @@ run_agrees κ (c ∷ cs) b l (a ∷ heard) z r (then s d w) =
     let g : Agrees (step_of c b) (told_of 32 c l).answer (told_of 32 c l).breaks = call_agrees c b l r in
     let e : s ≡ step_of c b = does_one κ c b s d in
     ap₂ (λ (x : Answer) (xs : List Answer). x ∷ xs) (ap (λ (x : Step). x.answer) e ∙ g.answers)
-    (run_agrees κ cs s.board (told_of 32 c l).breaks heard z (rw e g.reads) w)
+    (run_agrees κ cs s.board (told_of 32 c l).breaks heard z (subst (λ (x : Step). Reads x.board (told_of 32 c l).breaks) (sym e) g.reads) w)
 
 pub board_is_the_list : (κ : Lfts 0) (calls : List Call) (b : Board) (heard : List Answer) (z : Board) → empty.Learnt κ tt b tt → Run (Does κ) b calls heard z → heard ≡ list_answers 32 calls no_breaks
 board_is_the_list κ calls b heard z e w = run_agrees κ calls b no_breaks heard z (rw e empty_reads) w

@@ -1,5 +1,5 @@
 -- What Q-8 asks for, of the functions' contracts as the checker makes them.
-use Rattle.std.proofs.Common.{◌≡◌, ℕ, ◌<◌, ◌≤◌, Bool, true, false, cond as pick, eqb, List, [], ◌∷◌, map, length, get_or, sym, refl, ap, ◌∙◌, subst, ap₂, arith, ne_eqb, eqb-true}
+use Rattle.std.proofs.Common.{subst, ◌≡◌, ℕ, ◌<◌, ◌≤◌, Bool, true, false, cond as pick, eqb, List, [], ◌∷◌, map, length, get_or, sym, refl, ap, ◌∙◌, subst, ap₂, arith, ne_eqb, eqb-true}
 use borrow.Author.Tests.{eqb-false, lt-leb}
 use contract.Lifetimes.{Lfts}
 use Rattle.board.specs.Breaks.{Breaks, no_breaks, is_open, provider_of, free_from}
@@ -41,11 +41,13 @@ module _ (κ : Lfts 0) where
 -- over any calls, on channels of any number: what is told is what the two lists say, and the board reads as them after
 run_agrees : (κ : Lfts 0) (os : List On) (b : SharedBoard) (ls : ℕ → Breaks) (told : List Reply) (z : SharedBoard) → Reads b ls → Run (Does κ) b os told z → told ≡ list_replies os ls
 unfolding list_replies
+run_agrees κ [] b ls (x ∷ told) z r x5 = elim x5 [ ]
+run_agrees κ (o ∷ os) b ls [] z r x4 = elim x4 [ ]
 run_agrees κ [] b ls [] z r nothing = refl
 run_agrees κ (o ∷ os) b ls (x ∷ told) z r (then t d w) =
     let a : Agrees (turn_of o b) (said_of o ls).reply (said_of o ls).lists = turn_agrees o b ls r in
     let e : t ≡ turn_of o b = does_on κ o.channel o.call b t d in
-    ap₂ (λ (x : Reply) (xs : List Reply). x ∷ xs) (ap (λ (x : Turn). x.reply) e ∙ a.replies) (run_agrees κ os t.board (said_of o ls).lists told z (rw e a.reads) w)
+    ap₂ (λ (x : Reply) (xs : List Reply). x ∷ xs) (ap (λ (x : Turn). x.reply) e ∙ a.replies) (run_agrees κ os t.board (said_of o ls).lists told z (subst (λ (x : Turn). Reads x.board (said_of o ls).lists) (sym e) a.reads) w)
 
 pub board_is_two_lists : (κ : Lfts 0) (os : List On) (b : SharedBoard) (told : List Reply) (z : SharedBoard) → empty.Learnt κ tt b tt → Run (Does κ) b os told z → told ≡ list_replies os no_lists
 board_is_two_lists κ os b told z e w = run_agrees κ os b no_lists told z (rw e empty_reads) w
@@ -133,10 +135,12 @@ lists_after (o ∷ os) ls = lists_after os (said_of o ls).lists
 
 run_reads : (κ : Lfts 0) (os : List On) (b : SharedBoard) (ls : ℕ → Breaks) (told : List Reply) (z : SharedBoard) → Reads b ls → Run (Does κ) b os told z → Reads z (lists_after os ls)
 unfolding lists_after
+run_reads κ [] b ls (x ∷ told) z r x5 = elim x5 [ ]
+run_reads κ (o ∷ os) b ls [] z r x4 = elim x4 [ ]
 run_reads κ [] b ls [] z r nothing = r
 run_reads κ (o ∷ os) b ls (x ∷ told) z r (then t d w) =
     let a : Agrees (turn_of o b) (said_of o ls).reply (said_of o ls).lists = turn_agrees o b ls r in
-    run_reads κ os t.board (said_of o ls).lists told z (rw (does_on κ o.channel o.call b t d) a.reads) w
+    run_reads κ os t.board (said_of o ls).lists told z (subst (λ (x : Turn). Reads x.board (said_of o ls).lists) (sym (does_on κ o.channel o.call b t d)) a.reads) w
 
 pub a_channel_finds_a_place :
     (κ : Lfts 0) (os : List On) (b : SharedBoard) (told : List Reply) (z : SharedBoard) → empty.Learnt κ tt b tt → Run (Does κ) b os told z

@@ -188,7 +188,7 @@ direct_placed (part k p i a) level start m g d l h =
     let one : directly m (recorded level start k p) ≡ true = in_place m _ d (omega arith) (omega arith) in
     let inner : direct_of m (records (level + 1) (start + 2) i) ≡ [] =
     apart m (all_map (λ q w. other_level m q (omega (arith, w.deep))) (within i (level + 1) (start + 2) (level + 1) (start + 2) (start + 2 + size i) g.1 (omega arith) (omega arith) (omega arith))) in
-    rw (one, direct_append, inner, direct_placed a level (start + (2 + length p)) m g.2 d (omega arith) (omega arith))
+    rw (one, direct_append m (records (level + 1) (start + 2) i) (records level (start + (2 + length p)) a), inner, direct_placed a level (start + (2 + length p)) m g.2 d (omega arith) (omega arith))
 
 -- ---- each MID is cut into its direct parts
 

@@ -37,6 +37,7 @@ one_row b h = leb-true _ _ (each_below (λ b. leb (begun b characters) 1) 256 b 
 -- a byte that begins a row begins one, and lies below the end of all
 begun_some : (b : ℕ) {r : Range} {more : List Range} {rows : List (List Range)} → Memᴰ (r ∷ more) rows → within r b ≡ true → 1 ≤ begun b rows
 unfolding begun
+begun_some b {r = r} {more = more} {rows = []} x5 h = elim x5 [ ]
 begun_some b {rows = x ∷ rows} (Memᴰ.head e) h = rw (← e, h) (omega arith)
 begun_some b {rows = [] ∷ rows} (Memᴰ.tail m) h = begun_some b m h
 begun_some b {rows = (q ∷ qs) ∷ rows} (Memᴰ.tail m) h = omega (arith, begun_some b m h)
@@ -47,6 +48,7 @@ in_range (low to high) more rows b h =
     omega (arith, leb-true b high (and_both (leb low b) (leb b high) h).1, le-max_left (suc high) (past rows))
 
 below_past : (b : ℕ) {r : Range} {more : List Range} {rows : List (List Range)} → Memᴰ (r ∷ more) rows → within r b ≡ true → b < past rows
+below_past b {r = r} {more = more} {rows = []} x5 h = elim x5 [ ]
 below_past b {r = r} {more = more} {rows = x ∷ rows} (Memᴰ.head e) h = rw (← e) (in_range r more rows b h)
 below_past b {rows = [] ∷ rows} (Memᴰ.tail m) h = below_past b m h
 below_past b {rows = (low to high ∷ qs) ∷ rows} (Memᴰ.tail m) h = omega (arith, below_past b m h, le-max_right (suc high) (past rows))
@@ -54,6 +56,7 @@ below_past b {rows = (low to high ∷ qs) ∷ rows} (Memᴰ.tail m) h = omega (a
 -- so the first row that the byte begins is the only one
 found : (b : ℕ) {r : Range} {more : List Range} {rows : List (List Range)} → Memᴰ (r ∷ more) rows → within r b ≡ true → begun b rows ≤ 1 → begin rows b ≡ wants more
 unfolding begun
+found b {r = r} {more = more} {rows = []} x8 h one = elim x8 [ ]
 found b {rows = x ∷ rows} (Memᴰ.head e) h one = rw (← e, h)
 found b {rows = [] ∷ rows} (Memᴰ.tail m) h one = found b m h one
 found b {more = more} {rows = (q ∷ qs) ∷ rows} (Memᴰ.tail m) h one = go (within q b) one (found b m h)

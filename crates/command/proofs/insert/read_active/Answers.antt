@@ -1,0 +1,23 @@
+-- `command::insert::read_active`: by the byte of the flags, and then its parts as their tables are read.
+use mathlib.Core.Path.{sym, ◌∙◌}
+use Rattle.command.proofs.Walking.{no_flags, no_mode, mode_within, an_active}
+use borrow.Author.Rules.{rules}
+use Rattle.command.proofs.insert.read_active.Goals as goal
+
+pub returns-then-payload-at : goal.returns-then-payload-at
+returns-then-payload-at c = let a = c.args in no_flags a.payload.now a.at c.if-payload-at.true
+
+pub returns-in-Lacks : goal.returns-in-Lacks
+returns-in-Lacks c =
+    let a = c.args in
+    no_mode a.payload.now a.at c.wide-flags.result c.if-payload-at.false c.wide-flags.ensures.0 c.wide-flags.ensures.1 _ (sym c.in-Lacks.is ∙ c.read_mode.ensures)
+
+pub read_ending-requires : goal.read_ending-requires
+read_ending-requires c =
+    let a = c.args in
+    mode_within a.payload.now a.at c.wide-flags.result c.if-payload-at.false c.wide-flags.ensures.0 c.wide-flags.ensures.1 _ (sym c.in-Got.is ∙ c.read_mode.ensures)
+
+pub returns : goal.returns
+returns c =
+    let a = c.args in
+    an_active a.payload.now a.at c.wide-flags.result c.if-payload-at.false c.wide-flags.ensures.0 c.wide-flags.ensures.1 _ (sym c.in-Got.is ∙ c.read_mode.ensures) _ c.read_ending.ensures

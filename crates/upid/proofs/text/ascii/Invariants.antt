@@ -1,0 +1,17 @@
+-- `upid::text::ascii` meets its contract: what is left of the bytes, read on from between two characters, gives what all of them give.
+use Prim.Native.Nat.{ℕ, ◌+◌, ◌-◌, ◌≤◌, ◌<◌}
+use mathlib.Core.Path.{◌≡◌, refl, sym, ◌∙◌}
+use mathlib.Core.List.{List, [], foldl}
+use native.Mathlib.Omega.{arith}
+use native.Mathlib.Numerals.{add-one}
+use lib.ListN.{length, get_or, drop}
+use lib.Seq.{drop-cons}
+use Rattle.upid.specs.Text.{State, wants, step}
+use Rattle.upid.proofs.Ranges.{hit}
+use Rattle.upid.proofs.text.ascii.Given as goal
+
+abbrev pub invariant-loop-i : goal.invariant-loop-i
+invariant-loop-i l = (l.i ≤ length l.s) × (foldl step (wants []) l.s ≡ foldl step (wants []) (drop l.i l.s))
+
+abbrev pub decreases-loop-i : goal.decreases-loop-i
+decreases-loop-i l = length l.s - l.i
