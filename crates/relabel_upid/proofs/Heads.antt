@@ -101,6 +101,7 @@ pub record Turn (s : List ℕ) (at : ℕ) (ps : List Part) : Type 0 where
 
 module _ (s : List ℕ) (at : ℕ) where
   pub turn : (ps : List Part) → Rest at (drop at s) ps → at < length s → Turn s at ps
+  go (k ∷ []) ps e r = elim r [ ]
   turn ps r h = go (drop at s) ps refl r
     where
       go : (b : List ℕ) (ps : List Part) → drop at s ≡ b → Rest at b ps → Turn s at ps

@@ -1,0 +1,12 @@
+-- `command_measure::measure::time_fits`, by the kind of the time.
+use borrow.Author.Rules.{rules}
+use Rattle.command_measure.proofs.measure.time_fits.Goals as goal
+
+pub returns-in-Immediate : goal.returns-in-Immediate
+returns-in-Immediate c = rw c.in-Immediate.is
+
+pub returns-in-Unspecified : goal.returns-in-Unspecified
+returns-in-Unspecified c = rw c.in-Unspecified.is
+
+pub returns-in-At : goal.returns-in-At
+returns-in-At c = rw c.in-At.is

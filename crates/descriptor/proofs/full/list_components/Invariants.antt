@@ -1,0 +1,19 @@
+-- `descriptor::full::list_components`. The loop's invariant: what is left, stored from place i on, gives what the whole gives.
+use Prim.Native.Nat.{◌+◌, ◌-◌, ◌≤◌}
+use mathlib.Core.List.{[]}
+use mathlib.Core.Path.{◌≡◌, ◌∙◌}
+use native.Mathlib.Omega.{arith}
+use lib.ListN.{length, length-set}
+use Rattle.descriptor.specs.Segmentation.{component}
+use Rattle.descriptor.specs.Private.{component_read}
+use Rattle.descriptor.specs.Full.{filled}
+use Rattle.descriptor.proofs.Besides.{filling_from, fill_start, fill_end, fill_turn, fill_short}
+use Rattle.descriptor.proofs.Parts.{told, ends_inside}
+use borrow.Author.Rules.{rules}
+use Rattle.descriptor.proofs.full.list_components.Given as goal
+
+abbrev pub invariant-loop-i : goal.invariant-loop-i
+invariant-loop-i l = (length l.out ≡ 255) × (l.next ≤ length l.s) × (l.i ≤ l.n) × (filling_from l.s l.out l.i (l.n - l.i) l.next ≡ filling_from l.s (filled []) 0 l.n l.initial.next)
+
+abbrev pub decreases-loop-i : goal.decreases-loop-i
+decreases-loop-i l = l.n - l.i

@@ -1,0 +1,18 @@
+-- `relabel_upid::relabel_upid` meets its contract.
+use Rattle.relabel_upid.proofs.Stores.{relabel_zero, relabel_more}
+use borrow.Author.Rules.{rules}
+use Rattle.relabel_upid.proofs.relabel_upid.Reads as reads
+use Rattle.relabel_upid.proofs.relabel_upid.Lts as lts
+use Rattle.relabel_upid.proofs.relabel_part.Reads as relabel_part_reads
+use Rattle.relabel_upid.proofs.relabel_top.Reads as relabel_top_reads
+use Rattle.relabel_upid.proofs.relabel_upid.Goals as goal
+
+pub returns-then-part-eq0 : goal.returns-then-part-eq0
+returns-then-part-eq0 c =
+    let a = c.args in
+    rw (relabel_zero a.upid_type a.new_type a.part a.upid.now a.new.now c.if-part-eq0.true) c.relabel_top.ensures
+
+pub returns : goal.returns
+returns c =
+    let a = c.args in
+    rw (relabel_more a.upid_type a.new_type a.part a.upid.now a.new.now c.if-part-eq0.false) c.relabel_part.ensures

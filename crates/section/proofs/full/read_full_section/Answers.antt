@@ -1,0 +1,16 @@
+-- `section::full::read_full_section`: the command's bytes are those of the section's own view.
+use mathlib.Core.Path.{refl, ap, sym, ◌∙◌}
+use Rattle.section.specs.Full.{beside_command}
+use Rattle.section.proofs.FullReadings.{full_is, full_refused}
+use borrow.Author.Rules.{rules}
+use Rattle.section.proofs.full.read_full_section.Goals as goal
+
+pub returns-in-Refused : goal.returns-in-Refused
+returns-in-Refused c =
+    let a = c.args in
+    full_refused a.section.now _ c.read_section-read.ensures _ c.in-Refused.is _ c.blanks.ensures
+
+pub returns-in-Is : goal.returns-in-Is
+returns-in-Is c =
+    let a = c.args in
+    full_is a.section.now _ (sym c.in-Is.is ∙ c.read_section-read.ensures) _ refl _ (c.beside_command.ensures ∙ ap (beside_command c.in-Is.x.command) c.view.ensures)
