@@ -1,5 +1,6 @@
-// The C boundary: include/scte35.h declares these functions. Each takes bytes and an offset, reads what stands from there to the end (nothing where the
-// offset lies past it), and answers a struct of 64-bit words. Views count from the offset; those of a loop's items, from the loop's first byte.
+// libscte35.a: the functions that include/scte35.h declares, each with the clauses that the library scte35 has of it. Each takes bytes and an offset, reads
+// what stands from there to the end (nothing where the offset lies past it), and answers a struct of 64-bit words. Views count from the offset; those of a
+// loop's items, from the loop's first byte.
 #![tactic(auto)]
 
 ghost use Rattle.std.specs.Prelude.{◌≡◌, drop};
@@ -42,8 +43,7 @@ pub extern "C" fn scte35_read_header(s: &[u8], at: usize) -> FlatHeader
     scte35::scte35_read_header(s, at)
 }
 
-// Its header is read as numbers, its command as `read_section` reads it. There is a return in an arm for each type of answer: answers that meet behind a
-// match, or behind a call, are held word by word.
+// Its header is read as numbers, its command as `read_section` reads it.
 #[unsafe(no_mangle)]
 pub extern "C" fn scte35_read_section(section: &[u8], at: usize) -> FlatSection
     ensures { result ≡ flat_section_read (section_of (drop at section.now)) }

@@ -49,5 +49,12 @@ pub extern "C" fn scte35_write_section_words(
     ensures answer { result ≡ flat_written (answer_of (section_words_made header.now command.now components.now lent.now descriptors.now) target.old) }
     ensures bytes { target.new ≡ later_of (section_words_made header.now command.now components.now lent.now descriptors.now) target.old }
 {
-    scte35::writing::scte35_write_section_words(header, command, components, lent, descriptors, target)
+    scte35::writing::scte35_write_section_words(
+        header,
+        command,
+        components,
+        lent,
+        descriptors,
+        target,
+    )
 }
