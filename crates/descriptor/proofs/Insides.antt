@@ -22,7 +22,7 @@ use Rattle.upid.specs.declared.Refusal.TheVariants.{InputTooLong, NotEnoughData,
 use Rattle.upid.specs.declared.UpidRead.{UpidRead}
 use Rattle.upid.proofs.Theorems.{view_of_24_lies_inside}
 use Rattle.descriptor.specs.Descriptor.{
-  ◌andThen◌,
+  ◌and_then◌,
   avail_of,
   dtmf_of,
   time_of,

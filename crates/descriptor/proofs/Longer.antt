@@ -17,7 +17,7 @@ use Rattle.table.proofs.Steps.{takes_in, reads_in}
 use Rattle.upid.specs.Upid.{check_of}
 use Rattle.upid.specs.declared.Refusal.TheVariants.{NotEnoughData}
 use Rattle.upid.specs.declared.UpidRead.{UpidRead}
-use Rattle.descriptor.specs.Descriptor.{◌andThen◌, at_least, avail_of, dtmf_of, time_of, reported_upid, if_fine, active_with, active_of, segmentation_of, cuei, is_cuei, descriptor_of}
+use Rattle.descriptor.specs.Descriptor.{◌and_then◌, at_least, avail_of, dtmf_of, time_of, reported_upid, if_fine, active_with, active_of, segmentation_of, cuei, is_cuei, descriptor_of}
 use Rattle.descriptor.specs.Plain.{avail, dtmf, time}
 use Rattle.descriptor.specs.Segmentation.{delivery_restrictions, component, blank_component, mode, duration, written_upid, ListedFront, parts, front, sub_segment, sub_segments, back, Head, head, active_from}
 use Rattle.descriptor.specs.declared.Descriptor.{Descriptor}

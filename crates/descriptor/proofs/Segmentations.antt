@@ -19,7 +19,7 @@ use Rattle.upid.specs.Upid.{check_of}
 use Rattle.upid.specs.declared.Refusal.{Refusal}
 use Rattle.upid.specs.declared.UpidRead.{UpidRead}
 use Rattle.upid.proofs.Theorems.{view_of_24_lies_inside}
-use Rattle.descriptor.specs.Descriptor.{moved_refusal, reported_upid, if_fine, active_with, active_of, segmentation_of, ◌andThen◌}
+use Rattle.descriptor.specs.Descriptor.{moved_refusal, reported_upid, if_fine, active_with, active_of, segmentation_of, ◌and_then◌}
 use Rattle.descriptor.specs.Segmentation.{Moded, ListedFront, Head, delivery_restrictions, mode, duration, written_upid, parts, front, back, head}
 use Rattle.descriptor.specs.Private.{lacking, restrictions_in, upid_answer, upid_checked}
 use Rattle.descriptor.specs.declared.Descriptor.TheVariants.{Segmentation}

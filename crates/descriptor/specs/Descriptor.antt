@@ -21,8 +21,8 @@ use Rattle.descriptor.specs.declared.segmentation.DescriptorDetail.TheVariants.{
 use Rattle.descriptor.specs.declared.segmentation.SegmentationUpid.{SegmentationUpid}
 
 -- what a table reads, and then what is made of it; "the first fault stands"
-infixr 40 ◌andThen◌
-abbrev pub ◌andThen◌ : {X : Type 0} → Answer X → (X → ℕ → DescriptorRead) → DescriptorRead
+infixr 40 ◌and_then◌
+abbrev pub ◌and_then◌ : {X : Type 0} → Answer X → (X → ℕ → DescriptorRead) → DescriptorRead
 got x at and_then k = k x at
 short expected actual and_then k = Refused (NotEnoughData expected actual)
 

@@ -14,7 +14,7 @@ use Rattle.upid.proofs.Laws.{by_cases}
 use Rattle.table.proofs.Lists.{zero_one, and_true}
 use Rattle.table.specs.Bits.{pick, bits_of}
 use Rattle.table.specs.Table.{Answer, got, short, parse}
-use Rattle.descriptor.specs.Descriptor.{◌andThen◌, avail_of, dtmf_of, segmentation_of, time_of, reserved_of, is_cuei, cuei, descriptor_of}
+use Rattle.descriptor.specs.Descriptor.{◌and_then◌, avail_of, dtmf_of, segmentation_of, time_of, reserved_of, is_cuei, cuei, descriptor_of}
 use Rattle.descriptor.specs.Plain.{avail, dtmf, time, private_bytes}
 use Rattle.descriptor.specs.Segmentation.{cancelled}
 use Rattle.upid.specs.declared.Refusal.TheVariants.{NotEnoughData}

@@ -20,7 +20,7 @@ use Rattle.upid.specs.Upid.{check_of, eidr_of}
 use Rattle.upid.specs.Private.{Accepted}
 use Rattle.upid.specs.declared.UpidRead.{UpidRead}
 use Rattle.upid.proofs.Walks.{check_short}
-use Rattle.descriptor.specs.Descriptor.{◌andThen◌, reported_upid, if_fine, active_with, active_of, segmentation_of}
+use Rattle.descriptor.specs.Descriptor.{◌and_then◌, reported_upid, if_fine, active_with, active_of, segmentation_of}
 use Rattle.descriptor.specs.Segmentation as table
 use Rattle.descriptor.specs.Segmentation.{ListedFront, Head, head, front, back, sub_segments, written_upid, active_from, with_upid, segmentation}
 use Rattle.descriptor.specs.Full.{filled, beside_in, beside_of}

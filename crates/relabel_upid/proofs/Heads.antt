@@ -101,11 +101,11 @@ pub record Turn (s : List ℕ) (at : ℕ) (ps : List Part) : Type 0 where
 
 module _ (s : List ℕ) (at : ℕ) where
   pub turn : (ps : List Part) → Rest at (drop at s) ps → at < length s → Turn s at ps
-  go (k ∷ []) ps e r = elim r [ ]
   turn ps r h = go (drop at s) ps refl r
     where
       go : (b : List ℕ) (ps : List Part) → drop at s ≡ b → Rest at b ps → Turn s at ps
       go [] ps e r = absurd (omega (arith, length-drop at s, ap length e))
+      go (k ∷ []) ps e r = elim r [ ]
       go (k ∷ (l ∷ rest)) ps e (part {q = q} {qs = qs} a f g x) =
           let z : at ≡ at + 0 = omega arith in
           let ek : get_or s at 0 ≡ k = ap (λ (j : ℕ). get_or s j 0) z ∙ sym (get_or-drop at s 0 0) ∙ ap (λ (y : List ℕ). get_or y 0 0) e in

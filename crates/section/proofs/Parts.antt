@@ -51,7 +51,7 @@ made (HeaderRead.Header h) (CommandRead.Is c) v x e =
     let f : record { header = h; command = moved 14 c; descriptors = v.descriptors; payload = v.command } ≡ x = cc in
     record {
       header = ap (λ (y : Section). HeaderRead.Header y.header) f;
-      own_val = c;
+      own = c;
       command = refl;
       moves = ap (λ (y : Section). y.command) (sym f);
       loop = ap (λ (y : Section). y.descriptors) (sym f);
@@ -88,7 +88,7 @@ parts_of_lem s x e =
       crc = crc;
       clear = clear;
       header = m.header;
-      own_val = m.own;
+      own = m.own;
       command = m.command;
       moves = m.moves;
       loop = m.loop;

@@ -10,7 +10,7 @@ use lib.ListN.{length, take, drop, get_or, length-take, length-drop}
 use lib.Seq.{get_or-drop}
 use borrow.Author.Tests.{le-leb, lt-leb}
 use Rattle.c_items.specs.FlatItem.{segmentation_item, flat_descriptor, blank_item, flat_item, flat_step}
-use Rattle.descriptor.specs.Descriptor.{◌andThen◌, by_kind, reported_upid, if_fine, avail_of, dtmf_of, time_of, reserved_of, active_with, active_of, segmentation_of, is_cuei, descriptor_of}
+use Rattle.descriptor.specs.Descriptor.{◌and_then◌, by_kind, reported_upid, if_fine, avail_of, dtmf_of, time_of, reserved_of, active_with, active_of, segmentation_of, is_cuei, descriptor_of}
 use Rattle.descriptor.specs.Plain.{avail, dtmf, time, private_bytes}
 use Rattle.descriptor.specs.Segmentation.{Head, head, front, back}
 use Rattle.descriptor.specs.declared.Descriptor.{Descriptor}

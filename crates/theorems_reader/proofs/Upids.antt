@@ -16,7 +16,7 @@ use Rattle.upid.specs.Upid as upid
 use Rattle.upid.specs.Upid.{check_of}
 use Rattle.upid.specs.declared.UpidRead.{UpidRead}
 use Rattle.upid.specs.declared.UpidRead.TheVariants.{Fine, Refused}
-use Rattle.descriptor.specs.Descriptor.{◌andThen◌, reported_upid, if_fine, avail_of, dtmf_of, time_of, reserved_of, active_with, active_of, segmentation_of, is_cuei, descriptor_of}
+use Rattle.descriptor.specs.Descriptor.{◌and_then◌, reported_upid, if_fine, avail_of, dtmf_of, time_of, reserved_of, active_with, active_of, segmentation_of, is_cuei, descriptor_of}
 use Rattle.descriptor.specs.Plain.{avail, dtmf, time, private_bytes}
 use Rattle.descriptor.specs.Segmentation.{ListedFront, Head, head, front, back, active_from, segmentation}
 use Rattle.descriptor.specs.Full.{beside_in, beside_of}

@@ -21,7 +21,7 @@ use Rattle.upid.specs.declared.Refusal.TheVariants.{InputTooLong, NotEnoughData,
 use Rattle.upid.specs.declared.UpidRead.{UpidRead}
 use Rattle.upid.specs.declared.UpidRead.TheVariants.{Fine, Refused}
 use Rattle.descriptor.proofs.Plains.{reserved_is}
-use Rattle.descriptor.specs.Descriptor.{◌andThen◌, moved_refusal, reported_upid, if_fine, avail_of, dtmf_of, time_of, reserved_of, active_with, active_of, segmentation_of, is_cuei, descriptor_of}
+use Rattle.descriptor.specs.Descriptor.{◌and_then◌, moved_refusal, reported_upid, if_fine, avail_of, dtmf_of, time_of, reserved_of, active_with, active_of, segmentation_of, is_cuei, descriptor_of}
 use Rattle.descriptor.specs.Plain.{avail, dtmf, time}
 use Rattle.descriptor.specs.Segmentation.{ListedFront, Head, head, front, back, active_from, segmentation, mode_size, duration_size, fields_before}
 use Rattle.descriptor.specs.Full.{beside_in, beside_of}

@@ -6,7 +6,7 @@ use mathlib.Core.Path.{◌≡◌, refl, ap, sym, subst, ◌∙◌}
 use native.Mathlib.Omega.{arith}
 use lib.ListN.{length, take, drop, get_or}
 use Rattle.descriptor.proofs.Plains.{avail_is, time_is, reserved_is}
-use Rattle.descriptor.specs.Descriptor.{◌andThen◌, if_fine, moved_refusal, reported_upid, active_with, active_of, segmentation_of, dtmf_of, reserved_of, is_cuei, cuei, descriptor_of}
+use Rattle.descriptor.specs.Descriptor.{◌and_then◌, if_fine, moved_refusal, reported_upid, active_with, active_of, segmentation_of, dtmf_of, reserved_of, is_cuei, cuei, descriptor_of}
 use Rattle.descriptor.specs.Plain.{dtmf}
 use Rattle.descriptor.specs.Segmentation as table
 use Rattle.descriptor.specs.Segmentation.{ListedFront, Head, head, front, back, active_from, segmentation}

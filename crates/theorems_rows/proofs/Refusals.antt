@@ -10,7 +10,7 @@ use lib.Seq.{get_or-drop}
 use borrow.Author.Tests.{eq-eqb, ne_eqb, lt-ltb, le-ltb, eqb-true}
 use Rattle.command.specs.Command.{number_of}
 use Rattle.command.specs.declared.CommandRead.{CommandRead}
-use Rattle.descriptor.specs.Descriptor.{avail_of, dtmf_of, time_of, reserved_of, segmentation_of, active_of, active_with, is_cuei, cuei, descriptor_of, ◌andThen◌, if_fine}
+use Rattle.descriptor.specs.Descriptor.{avail_of, dtmf_of, time_of, reserved_of, segmentation_of, active_of, active_with, is_cuei, cuei, descriptor_of, ◌and_then◌, if_fine}
 use Rattle.descriptor.specs.Plain.{avail, dtmf, time}
 use Rattle.descriptor.specs.Segmentation.{head, front, back}
 use Rattle.descriptor.specs.Full.{blank_beside, identifier_read}

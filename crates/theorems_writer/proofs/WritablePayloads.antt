@@ -24,7 +24,7 @@ use Rattle.upid.specs.declared.UpidRead.{UpidRead}
 use Rattle.upid.specs.declared.UpidRead.TheVariants.{Fine, Refused}
 use Rattle.descriptor.proofs.Plains.{reserved_is}
 use Rattle.descriptor.proofs.Structures.{avail_structure, dtmf_structure, time_structure, private_structure}
-use Rattle.descriptor.specs.Descriptor.{◌andThen◌, reported_upid, if_fine, avail_of, dtmf_of, time_of, reserved_of, active_with, active_of, segmentation_of, is_cuei, descriptor_of}
+use Rattle.descriptor.specs.Descriptor.{◌and_then◌, reported_upid, if_fine, avail_of, dtmf_of, time_of, reserved_of, active_with, active_of, segmentation_of, is_cuei, descriptor_of}
 use Rattle.descriptor.specs.Plain.{avail, dtmf, time, private_bytes}
 use Rattle.descriptor.specs.Segmentation.{blank_component, ListedFront, Head, head, front, back, active_from, segmentation, writable_front, writable_detail, count_of, mode_size, duration_size, sub_bytes}
 use Rattle.descriptor.specs.Full.{filled, blank_beside, beside_in, beside_of, beside_read, identifier_read}

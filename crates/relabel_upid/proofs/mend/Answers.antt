@@ -12,6 +12,7 @@ use Rattle.relabel_upid.proofs.Heads.{Rest, begun}
 use Rattle.relabel_upid.proofs.Stores.{head_complete, next_ahead, counts, mends_it, keeps_it}
 use Rattle.relabel_upid.proofs.Turns.{mended_end}
 use Rattle.relabel_upid.proofs.mend.Goals as goal
+use Rattle.relabel_upid.proofs.mend.Goals.{then-end-at, else-end-at}
 
 pub loop-ahead-init : goal.loop-ahead-init
 loop-ahead-init c =
@@ -78,20 +79,20 @@ loop-ahead-preserved c =
     let a = c.args in
     let inv = c.loop-ahead.invariant in
     let next = next_ahead a.upid.now a.i a.end a.old a.n c.loop-ahead.ahead c.loop-ahead.at a.target.now c.requires c.loop-ahead.invariant.1 c.loop-ahead-test.true inv.2 _ c.next_head-at.ensures in
-    ⊎_elim
-    (λ w. (
-      ap length w.2 ∙ simp length-set inv.0,
+    elim c.if-end-at.branch [
+      then-end-at w ↦ (
+      ap length w.target-is ∙ simp length-set inv.0,
       omega (arith, inv.1),
       next,
-      mends_it a.upid.now a.i a.end a.old a.n c.loop-ahead.ahead c.loop-ahead.at a.target.now c.requires c.loop-ahead.invariant.1 c.loop-ahead-test.true inv.2 _ c.size-l.ensures.0 c.loop-ahead.target c.if-end-at.target _ w.0.taken w.1.ensures w.2 ∙ inv.3,
-    ))
-    (λ w. (
-      ap length w.1 ∙ inv.0,
+      mends_it a.upid.now a.i a.end a.old a.n c.loop-ahead.ahead c.loop-ahead.at a.target.now c.requires c.loop-ahead.invariant.1 c.loop-ahead-test.true inv.2 _ c.size-l.ensures.0 c.loop-ahead.target c.if-end-at.target _ w.if-end-at.true w.mended_length.ensures w.target-is ∙ inv.3,
+    )
+    | else-end-at w ↦ (
+      ap length w.target-is ∙ inv.0,
       omega (arith, inv.1),
       next,
-      keeps_it a.upid.now a.i a.end a.old a.n c.loop-ahead.ahead c.loop-ahead.at a.target.now c.requires c.loop-ahead.invariant.1 c.loop-ahead-test.true inv.2 _ c.size-l.ensures.0 c.loop-ahead.target c.if-end-at.target w.0.left w.1 ∙ inv.3,
-    ))
-    c.if-end-at.branch
+      keeps_it a.upid.now a.i a.end a.old a.n c.loop-ahead.ahead c.loop-ahead.at a.target.now c.requires c.loop-ahead.invariant.1 c.loop-ahead-test.true inv.2 _ c.size-l.ensures.0 c.loop-ahead.target c.if-end-at.target w.if-end-at.false w.target-is ∙ inv.3,
+    )
+    ]
 
 pub shape_of-target : goal.shape_of-target
 shape_of-target c = c.loop-ahead.invariant.0

@@ -8,9 +8,6 @@ use Rattle.daterange_line.proofs.Looks.{look_is, look_other, look_short, walk_no
 use borrow.Author.Rules.{rules}
 use Rattle.daterange_line.proofs.looking.find_cue.Goals as goal
 
-slice-aggregate-same-bytes : tie.Need-slice-aggregate-same-bytes invariant-loop decreases-loop
-slice-aggregate-same-bytes c = refl
-
 pub returns-then-line-lt17 : goal.returns-then-line-lt17
 returns-then-line-lt17 c = look_short _ c.if-line-lt17.true
 

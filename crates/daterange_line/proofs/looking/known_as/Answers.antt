@@ -3,21 +3,6 @@ use mathlib.Core.Path.{refl, sym, ◌∙◌}
 use Rattle.daterange_line.specs.Reading.{known_of}
 use Rattle.daterange_line.proofs.looking.known_as.Goals as goal
 
-slice-aggregate-same-bytes : tie.Need-slice-aggregate-same-bytes
-slice-aggregate-same-bytes c = refl
-
-slice-aggregate-same-bytes-2 : tie.Need-slice-aggregate-same-bytes-2
-slice-aggregate-same-bytes-2 c = refl
-
-slice-aggregate-same-bytes-3 : tie.Need-slice-aggregate-same-bytes-3
-slice-aggregate-same-bytes-3 c = refl
-
-slice-aggregate-same-bytes-4 : tie.Need-slice-aggregate-same-bytes-4
-slice-aggregate-same-bytes-4 c = refl
-
-slice-aggregate-same-bytes-5 : tie.Need-slice-aggregate-same-bytes-5
-slice-aggregate-same-bytes-5 c = refl
-
 pub same_bytes-requires : goal.same_bytes-requires
 same_bytes-requires c = tt
 

@@ -49,13 +49,13 @@ pub size-requires : goal.size-requires
 size-requires c = omega (arith, within_line c.args.line.now c.args.at _ _ _ _ c.cut_at.ensures c.in-Is.is)
 
 pub overflow_add-next : goal.overflow_add-next
-overflow_add-next c = omega (arith, c.before.before.before.before.before.before.before.before.before.before.before.before.before.before.before.well-formed, c.size.ensures, within_line c.args.line.now c.args.at _ _ _ _ c.cut_at.ensures c.in-Is.is)
+overflow_add-next c = omega (arith, c.well_formed, c.size.ensures, within_line c.args.line.now c.args.at _ _ _ _ c.cut_at.ensures c.in-Is.is)
 
 pub returns-then-line-next : goal.returns-then-line-next
 returns-then-line-next c = turn_done _ _ _ _ c.cut_at.ensures _ _ _ c.in-Is.is _ c.has_earlier.ensures _ c.known_as-word.ensures _ c.value_from.ensures _ c.is_fit.ensures c.if-has_earlier.false (not-false _ c.if-not-is_fit.false-raw) _ c.note-g.ensures _ c.size.ensures c.if-line-next.true
 
 pub overflow_add-result : goal.overflow_add-result
-overflow_add-result c = omega (arith, c.before.before.before.before.before.before.before.before.before.before.before.before.before.before.before.before.well-formed)
+overflow_add-result c = omega (arith, c.well_formed)
 
 pub returns-in-Nothing : goal.returns-in-Nothing
 returns-in-Nothing c = turn_nothing _ _ _ _ c.cut_at.ensures c.in-Nothing.is

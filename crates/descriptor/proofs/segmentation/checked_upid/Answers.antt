@@ -14,7 +14,7 @@ overflow_add-result c =
 pub returns-in-Fine : goal.returns-in-Fine
 returns-in-Fine c =
     let a = c.args in
-    upid_fine a.payload.now a.written _ _ c.view-part.ensures c.check_upid.ensures _ _ upid_type_number.upid_type_number.given.1 c.reported.ensures
+    upid_fine a.payload.now a.written _ _ c.view-part.ensures c.check_upid.ensures _ _ c.in-Fine.is c.reported.ensures
 
 pub returns-in-InputTooLong : goal.returns-in-InputTooLong
 returns-in-InputTooLong c =
