@@ -1,5 +1,5 @@
 /*
- * Reading and writing SCTE 35 sections: the functions of libscte35.a (rt staticlib scte35), for x86-64 Linux. C11 and C++11.
+ * Reading and writing SCTE 35 sections: the functions of libscte35.a (the crate scte35_c), for x86-64 Linux. C11 and C++11.
  *
  * Every function takes any bytes and any numbers, and returns. There are no globals and no allocation; nothing is kept between calls; any thread may
  * call any function at any time.

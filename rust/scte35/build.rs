@@ -1,7 +1,7 @@
-//! Links `libscte35.a`, the proved functions: code for x86-64 Linux, which `rt staticlib scte35` or `host/archive` makes of this repository.
+//! Links `libscte35.a`, the proved functions: code for x86-64 Linux, which `host/archive` makes of this repository.
 //!
-//! It is looked for in the folder SCTE35_LIB names; where that is not set, in the repository's target/staticlib, then where `host/archive` keeps what it made: the folder
-//! that was used last.
+//! It is looked for in the folder SCTE35_LIB names; where that is not set, in the repository's crates/scte35_c/out, where `rt lib` in crates/scte35_c writes it
+//! under the name `libscte35_c.a`, then where `host/archive` keeps what it made: the folder that was used last.
 use std::env;
 use std::fs;
 use std::path::{Path, PathBuf};
@@ -17,14 +17,15 @@ fn set(name: &str) -> Option<PathBuf> {
     env::var_os(name).filter(|v| !v.is_empty()).map(PathBuf::from)
 }
 
-/// The folders to look in, the first one first.
-fn folders() -> Vec<PathBuf> {
+/// The archives to look for, the first one first.
+fn archives() -> Vec<PathBuf> {
+    let in_folder = |folder: PathBuf| folder.join("libscte35.a");
     if let Some(folder) = set("SCTE35_LIB") {
-        return vec![folder];
+        return vec![in_folder(folder)];
     }
     let here = PathBuf::from(env::var_os("CARGO_MANIFEST_DIR").expect("set by cargo"));
-    let repository = here.ancestors().nth(2).map(|root| root.join("target/staticlib"));
-    repository.into_iter().chain(kept()).collect()
+    let repository = here.ancestors().nth(2).map(|root| root.join("crates/scte35_c/out/libscte35_c.a"));
+    repository.into_iter().chain(kept().into_iter().map(in_folder)).collect()
 }
 
 /// What `host/archive` keeps, the folder that was used last first; where it keeps nothing, the place where it would be.
@@ -43,15 +44,14 @@ fn kept() -> Vec<PathBuf> {
 }
 
 fn main() {
-    let archive = |folder: &PathBuf| folder.join("libscte35.a");
-    let folders = folders();
-    for folder in &folders {
-        println!("cargo:rerun-if-changed={}", archive(folder).display());
+    let archives = archives();
+    for archive in &archives {
+        println!("cargo:rerun-if-changed={}", archive.display());
     }
-    let Some(folder) = folders.iter().find(|folder| archive(folder).is_file()) else {
-        let places: Vec<String> = folders.iter().map(|folder| format!("\n    {}", archive(folder).display())).collect();
+    let Some(archive) = archives.iter().find(|archive| archive.is_file()) else {
+        let places: Vec<String> = archives.iter().map(|archive| format!("\n    {}", archive.display())).collect();
         stop(&format!(
-            "no libscte35.a, looked for as{}\nMake it in the repository with `host/archive` (or `rt staticlib scte35`, with Rattle's kit), or set \
+            "no libscte35.a, looked for as{}\nMake it in the repository with `host/archive` (or by `rt lib` in crates/scte35_c, with Rattle's kit), or set \
              SCTE35_LIB to a folder that holds one.",
             places.concat()
         ));
@@ -64,6 +64,9 @@ fn main() {
              CARGO_TARGET_X86_64_UNKNOWN_LINUX_GNU_RUNNER=qemu-x86_64."
         ));
     }
-    println!("cargo:rustc-link-search=native={}", Path::new(folder).display());
-    println!("cargo:rustc-link-lib=static=scte35");
+    // FOLDER/libNAME.a
+    let folder = archive.parent().unwrap_or(Path::new("."));
+    let name = archive.file_stem().and_then(|stem| stem.to_str()).and_then(|stem| stem.strip_prefix("lib")).unwrap_or("scte35");
+    println!("cargo:rustc-link-search=native={}", folder.display());
+    println!("cargo:rustc-link-lib=static={name}");
 }

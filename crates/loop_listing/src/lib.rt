@@ -7,43 +7,40 @@ use descriptor::Descriptor;
 use descriptor::segmentation::{DescriptorDetail, SegmentationDescriptor, SegmentationUpid};
 use descriptor_loop::iteration::{Counted, count_items, step};
 use descriptor_loop::{Item, ItemRefusal};
+use read_input::read_full;
+use std::io;
 use upid::{Refusal, UPID_EIDR};
 
 // A space and a number.
-fn value(x: u64) {
-    io::write_all(1, b" ");
-    io::print_decimal(1, x);
+fn value(rt: &impl Print, x: u64) -> io::Result<()> {
+    print!(rt; " {x}")
 }
 
-fn print_refusal(r: Refusal) {
+fn print_refusal(rt: &impl Print, r: Refusal) -> io::Result<()> {
     match r {
-        Refusal::InputTooLong => {
-            io::write_all(1, b" refused 2");
-        }
+        Refusal::InputTooLong => print!(rt; " refused 2"),
         Refusal::NotEnoughData { expected, actual } => {
-            io::write_all(1, b" short");
-            value(expected as u64);
-            value(actual as u64);
+            print!(rt; " short")?;
+            value(rt, expected as u64)?;
+            value(rt, actual as u64)
         }
-        Refusal::UpidLengthTypeMismatch => {
-            io::write_all(1, b" mismatch 0");
-        }
+        Refusal::UpidLengthTypeMismatch => print!(rt; " mismatch 0"),
         Refusal::InvalidUpidContent {
             upid_type,
             bytes: _,
         } => {
-            io::write_all(1, b" text");
-            value(upid_type as u64);
+            print!(rt; " text")?;
+            value(rt, upid_type as u64)
         }
         Refusal::InvalidUpidLength {
             upid_type,
             expected,
             actual,
         } => {
-            io::write_all(1, b" length");
-            value(upid_type as u64);
-            value(expected as u64);
-            value(actual as u64);
+            print!(rt; " length")?;
+            value(rt, upid_type as u64)?;
+            value(rt, expected as u64)?;
+            value(rt, actual as u64)
         }
     }
 }
@@ -57,67 +54,65 @@ fn upid_length(u: SegmentationUpid) -> usize {
     bytes.len
 }
 
-fn print_segmentation(s: SegmentationDescriptor) {
+fn print_segmentation(rt: &impl Print, s: SegmentationDescriptor) -> io::Result<()> {
     let detail = s.descriptor_detail;
     match detail {
         DescriptorDetail::Cancel => {
-            io::write_all(1, b" cancel");
-            value(s.segmentation_event_id as u64);
+            print!(rt; " cancel")?;
+            value(rt, s.segmentation_event_id as u64)
         }
         DescriptorDetail::Active(active) => {
             let type_id = active.segmentation_type_id;
             let upid = active.segmentation_upid;
-            io::write_all(1, b" segment");
-            value(s.segmentation_event_id as u64);
-            value(type_id.id() as u64);
-            value(upid.upid_type as u64);
-            value(upid_length(upid) as u64);
+            print!(rt; " segment")?;
+            value(rt, s.segmentation_event_id as u64)?;
+            value(rt, type_id.id() as u64)?;
+            value(rt, upid.upid_type as u64)?;
+            value(rt, upid_length(upid) as u64)
         }
     }
 }
 
-fn print_descriptor(d: Descriptor) {
+fn print_descriptor(rt: &impl Print, d: Descriptor) -> io::Result<()> {
     match d {
         Descriptor::Avail(avail) => {
-            io::write_all(1, b" avail");
-            value(avail.provider_avail_id as u64);
+            print!(rt; " avail")?;
+            value(rt, avail.provider_avail_id as u64)
         }
         Descriptor::Dtmf(dtmf) => {
             let chars = dtmf.dtmf_chars;
-            io::write_all(1, b" dtmf");
-            value(dtmf.preroll as u64);
-            value(chars.len as u64);
+            print!(rt; " dtmf")?;
+            value(rt, dtmf.preroll as u64)?;
+            value(rt, chars.len as u64)
         }
-        Descriptor::Segmentation(s) => print_segmentation(s),
+        Descriptor::Segmentation(s) => print_segmentation(rt, s),
         Descriptor::Time(time) => {
-            io::write_all(1, b" time");
-            value(time.tai_seconds);
-            value(time.tai_nanoseconds as u64);
-            value(time.utc_offset as u64);
+            print!(rt; " time")?;
+            value(rt, time.tai_seconds)?;
+            value(rt, time.tai_nanoseconds as u64)?;
+            value(rt, time.utc_offset as u64)
         }
         Descriptor::Reserved { tag, private_bytes } => {
-            io::write_all(1, b" reserved");
-            value(tag as u64);
-            value(private_bytes.len as u64);
+            print!(rt; " reserved")?;
+            value(rt, tag as u64)?;
+            value(rt, private_bytes.len as u64)
         }
     }
 }
 
-fn print_item(item: Item) {
+fn print_item(rt: &impl Print, item: Item) -> io::Result<()> {
     match item {
-        Item::End => {}
+        Item::End => Ok(()),
         Item::Refused(refusal) => match refusal {
-            ItemRefusal::InvalidDescriptorLength => {
-                io::write_all(1, b" badlength 255");
-            }
-            ItemRefusal::Other(r) => print_refusal(r),
+            ItemRefusal::InvalidDescriptorLength => print!(rt; " badlength 255"),
+            ItemRefusal::Other(r) => print_refusal(rt, r),
         },
-        Item::Is(d) => print_descriptor(d),
+        Item::Is(d) => print_descriptor(rt, d),
     }
 }
 
 // Every item of a loop that is not too long.
-fn print_items(bytes: &[u8])
+fn print_items(rt: &impl Print, bytes: &[u8]) -> io::Result<()>
     requires { length bytes.now ≤ 4076 }
 {
     let mut offset: usize = 0;
@@ -125,32 +120,31 @@ fn print_items(bytes: &[u8])
         let s = step(bytes, offset);
         let item = s.item;
         let next = s.next;
-        io::print_decimal(1, offset as u64);
-        value((next - offset) as u64);
-        print_item(item);
-        io::write_all(1, b"\n");
+        print!(rt; "{offset}")?;
+        value(rt, (next - offset) as u64)?;
+        print_item(rt, item)?;
+        println!(rt)?;
         offset = next;
     }
+    Ok(())
 }
 
-fn list(bytes: &[u8]) {
+fn list(rt: &impl Print, bytes: &[u8]) -> io::Result<()> {
     match count_items(bytes) {
-        Counted::Refused(_) => {
-            io::write_all(1, b"refused 2\n");
-        }
+        Counted::Refused(_) => println!(rt; "refused 2"),
         Counted::Are(n) => {
-            io::write_all(1, b"items");
-            value(n as u64);
-            io::write_all(1, b"\n");
-            print_items(bytes);
+            print!(rt; "items")?;
+            value(rt, n as u64)?;
+            println!(rt)?;
+            print_items(rt, bytes)
         }
     }
 }
 
 // Lists the loop that is on standard input.
-pub fn list_input() {
+pub fn list_input(rt: &(impl Input + Print)) -> io::Result<()> {
     // One byte more than a loop may have.
     let mut buffer = [0u8; 4077];
-    let n = io::read_full(0, &mut buffer);
-    list(&buffer[..n]);
+    let n = read_full(&mut rt.reader(), &mut buffer)?;
+    list(rt, &buffer[..n])
 }

@@ -1,6 +1,8 @@
 // Lists the loop on standard input: document 01's example.
 #![tactic(auto)]
 
-fn main() {
-    loop_listing::list_input();
+use std::io;
+
+fn main(rt: HostRuntime) -> io::Result<()> {
+    loop_listing::list_input(&rt)
 }

@@ -1,6 +1,8 @@
 // The same program over a loop whose items have every word.
 #![tactic(auto)]
 
-fn main() {
-    loop_listing::list_input();
+use std::io;
+
+fn main(rt: HostRuntime) -> io::Result<()> {
+    loop_listing::list_input(&rt)
 }

@@ -4,101 +4,100 @@
 
 use board::{Answer, Refusal};
 use channels::{Reply, SharedBoard, close_break, empty, open_break};
+use std::io;
 
-fn refusal(r: Refusal) {
+fn refusal(rt: &impl Print, r: Refusal) -> io::Result<()> {
     match r {
-        Refusal::BoardFull => io::write_all(1, b"refused 61\n"),
-        Refusal::NotOpen => io::write_all(1, b"refused 62\n"),
-    };
+        Refusal::BoardFull => println!(rt; "refused 61"),
+        Refusal::NotOpen => println!(rt; "refused 62"),
+    }
 }
 
-fn tell(reply: Reply) {
+fn tell(rt: &impl Print, reply: Reply) -> io::Result<()> {
     match reply {
-        Reply::NoSuchChannel => {
-            io::write_all(1, b"refused 63\n");
-        }
+        Reply::NoSuchChannel => println!(rt; "refused 63"),
         Reply::Is(a) => match a {
-            Answer::Is(id) => {
-                io::print_decimal(1, id as u64);
-                io::write_all(1, b"\n");
-            }
-            Answer::Refused(r) => refusal(r),
+            Answer::Is(id) => println!(rt; "{id}"),
+            Answer::Refused(r) => refusal(rt, r),
         },
     }
 }
 
-fn call(label: &[u8], channel: u8, number: u32) {
-    io::write_all(1, label);
-    io::print_decimal(1, channel as u64);
-    io::write_all(1, b" ");
-    io::print_decimal(1, number as u64);
-    io::write_all(1, b": ");
+fn call(rt: &impl Print, label: &str, channel: u8, number: u32) -> io::Result<()> {
+    print!(rt; "{label}{channel} {number}: ")
 }
 
-fn open(b: SharedBoard, channel: u8, provider: u32) -> SharedBoard {
-    call(b"open ", channel, provider);
+fn open(rt: &impl Print, b: SharedBoard, channel: u8, provider: u32) -> io::Result<SharedBoard> {
+    call(rt, "open ", channel, provider)?;
     let t = open_break(b, channel, provider);
-    let reply = t.reply;
-    tell(reply);
-    let after = t.board;
-    after
+    tell(rt, t.reply)?;
+    Ok(t.board)
 }
 
-fn close(b: SharedBoard, channel: u8, event: u32) -> SharedBoard {
-    call(b"close ", channel, event);
+fn close(rt: &impl Print, b: SharedBoard, channel: u8, event: u32) -> io::Result<SharedBoard> {
+    call(rt, "close ", channel, event)?;
     let t = close_break(b, channel, event);
-    let reply = t.reply;
-    tell(reply);
-    let after = t.board;
-    after
+    tell(rt, t.reply)?;
+    Ok(t.board)
 }
 
 // Four breaks of a channel, of this provider and the three after it.
-fn open_four(b: SharedBoard, channel: u8, provider: u32) -> SharedBoard {
-    let one = open(b, channel, provider);
-    let two = open(one, channel, std::num::wrapping_add_u32(provider, 1));
-    let three = open(two, channel, std::num::wrapping_add_u32(provider, 2));
-    open(three, channel, std::num::wrapping_add_u32(provider, 3))
+fn open_four(
+    rt: &impl Print,
+    b: SharedBoard,
+    channel: u8,
+    provider: u32,
+) -> io::Result<SharedBoard> {
+    let one = open(rt, b, channel, provider)?;
+    let two = open(rt, one, channel, provider.wrapping_add(1))?;
+    let three = open(rt, two, channel, provider.wrapping_add(2))?;
+    open(rt, three, channel, provider.wrapping_add(3))
 }
 
-fn open_sixteen(b: SharedBoard, channel: u8, provider: u32) -> SharedBoard {
-    let four = open_four(b, channel, provider);
-    let eight = open_four(four, channel, std::num::wrapping_add_u32(provider, 4));
-    let twelve = open_four(eight, channel, std::num::wrapping_add_u32(provider, 8));
-    open_four(twelve, channel, std::num::wrapping_add_u32(provider, 12))
+fn open_sixteen(
+    rt: &impl Print,
+    b: SharedBoard,
+    channel: u8,
+    provider: u32,
+) -> io::Result<SharedBoard> {
+    let four = open_four(rt, b, channel, provider)?;
+    let eight = open_four(rt, four, channel, provider.wrapping_add(4))?;
+    let twelve = open_four(rt, eight, channel, provider.wrapping_add(8))?;
+    open_four(rt, twelve, channel, provider.wrapping_add(12))
 }
 
 // The breaks as they are, with the next id of channel 0 before the wrap again: those still open are passed over.
-fn turned_back(b: SharedBoard) -> SharedBoard {
-    io::write_all(1, b"next 0 4294967290\n");
+fn turned_back(rt: &impl Print, b: SharedBoard) -> io::Result<SharedBoard> {
+    println!(rt; "next 0 4294967290")?;
     let places = b.places;
     let whose = b.whose;
     let mut next = b.next;
     next[0] = 4294967290;
-    SharedBoard {
+    Ok(SharedBoard {
         places,
         whose,
         next,
-    }
+    })
 }
 
-fn main() {
-    let first = open_sixteen(turned_back(empty()), 0, 1000);
-    let full = open(first, 0, 2000);
-    let none = open(full, 2, 2000);
-    let both = open_sixteen(none, 1, 5000);
-    let all = open(both, 1, 2000);
-    let before = close(all, 0, 4294967295);
-    let twice = close(before, 0, 4294967295);
-    let served = open(twice, 0, 2000);
-    let third = close(turned_back(served), 0, 3);
-    let last = open(third, 0, 3000);
-    let seventh = close(last, 0, 7);
-    let across = open(turned_back(seventh), 0, 3001);
-    let over = open(across, 0, 3002);
-    let other = close(over, 1, 3);
-    let own = close(other, 0, 3);
-    let neither = close(own, 1, 3);
-    let foreign = close(neither, 0, 12);
-    close(foreign, 255, 12);
+fn main(rt: HostRuntime) -> io::Result<()> {
+    let first = open_sixteen(&rt, turned_back(&rt, empty())?, 0, 1000)?;
+    let full = open(&rt, first, 0, 2000)?;
+    let none = open(&rt, full, 2, 2000)?;
+    let both = open_sixteen(&rt, none, 1, 5000)?;
+    let all = open(&rt, both, 1, 2000)?;
+    let before = close(&rt, all, 0, 4294967295)?;
+    let twice = close(&rt, before, 0, 4294967295)?;
+    let served = open(&rt, twice, 0, 2000)?;
+    let third = close(&rt, turned_back(&rt, served)?, 0, 3)?;
+    let last = open(&rt, third, 0, 3000)?;
+    let seventh = close(&rt, last, 0, 7)?;
+    let across = open(&rt, turned_back(&rt, seventh)?, 0, 3001)?;
+    let over = open(&rt, across, 0, 3002)?;
+    let other = close(&rt, over, 1, 3)?;
+    let own = close(&rt, other, 0, 3)?;
+    let neither = close(&rt, own, 1, 3)?;
+    let foreign = close(&rt, neither, 0, 12)?;
+    close(&rt, foreign, 255, 12)?;
+    Ok(())
 }

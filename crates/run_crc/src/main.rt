@@ -4,14 +4,16 @@
 
 ghost use Rattle.std.specs.Prelude.{◌≡◌, ◌<◌, length};
 
+use crc::{crc32, crc32_plain};
+use read_input::read_full;
+use std::io;
+
 // A message's length and its CRC, by `crc32` and by `crc32_plain`.
-fn report(message: &[u8]) {
-    io::print_decimal(1, message.len() as u64);
-    io::write_all(1, b" ");
-    io::print_hex(1, crc::crc32(message) as u64, 8);
-    io::write_all(1, b" ");
-    io::print_hex(1, crc::crc32_plain(message) as u64, 8);
-    io::write_all(1, b"\n");
+fn report(rt: &impl Print, message: &[u8]) -> io::Result<()> {
+    let size = message.len();
+    let fast = crc32(message);
+    let plain = crc32_plain(message);
+    println!(rt; "{size} {fast:08x} {plain:08x}")
 }
 
 fn digit(c: u8) -> u8
@@ -25,14 +27,14 @@ fn digit(c: u8) -> u8
 }
 
 // Reports the message of each line.
-fn lines(text: &[u8]) {
+fn lines(rt: &impl Print, text: &[u8]) -> io::Result<()> {
     let mut message = [0u8; 4096];
     let mut digits: usize = 0;
     let mut i: usize = 0;
     while i < text.len() {
         if text[i] == b'\n' {
             let bytes = digits / 2;
-            report(&message[..bytes]);
+            report(rt, &message[..bytes])?;
             digits = 0;
         } else if digits < 8192 {
             let place = digits / 2;
@@ -41,6 +43,7 @@ fn lines(text: &[u8]) {
         }
         i += 1;
     }
+    Ok(())
 }
 
 // Fills a message with numbers that look random.
@@ -70,29 +73,26 @@ fn part(message: &[u8], n: usize) -> &[u8] {
 }
 
 // Of the parts for n from 0 to 401: how many the two forms differ on, and the sum of the CRCs.
-fn parts(message: &[u8]) {
+fn parts(rt: &impl Print, message: &[u8]) -> io::Result<()> {
     let mut differ: u64 = 0;
     let mut sum: u64 = 0;
     let mut n: usize = 0;
     while n < 402 {
-        let fast = crc::crc32(part(message, n));
-        let apart = (fast != crc::crc32_plain(part(message, n))) as u64;
+        let fast = crc32(part(message, n));
+        let apart = (fast != crc32_plain(part(message, n))) as u64;
         differ += apart;
         sum += fast as u64;
         n += 1;
     }
-    io::print_decimal(1, differ);
-    io::write_all(1, b" differ, sum ");
-    io::print_hex(1, sum, 8);
-    io::write_all(1, b"\n");
+    println!(rt; "{differ} differ, sum {sum:08x}")
 }
 
-fn main() {
+fn main(rt: HostRuntime) -> io::Result<()> {
     let mut text = [0u8; 8192];
-    let n = io::read_full(0, &mut text);
-    lines(&text[..n]);
+    let n = read_full(&mut rt.reader(), &mut text)?;
+    lines(&rt, &text[..n])?;
     let mut message = [0u8; 4096];
     fill(&mut message);
-    parts(&message);
-    report(&message);
+    parts(&rt, &message)?;
+    report(&rt, &message)
 }

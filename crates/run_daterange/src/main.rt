@@ -8,108 +8,153 @@ ghost use Rattle.std.specs.Prelude.{◌≤◌, length};
 use bit_stores::Written;
 use daterange::write_daterange;
 use daterange_line::{Cue, Read, Reading, read_line};
+use read_input::read_full;
+use std::io;
 use table::lent::view;
-use table::numbers::wide;
 
 // A line's number and a word.
-fn start(n: u64, word: &[u8]) {
-    io::print_decimal(1, n);
-    io::write_all(1, word);
+fn start(rt: &impl Print, n: u64, word: &str) -> io::Result<()> {
+    print!(rt; "{n}{word}")
 }
 
-fn refused(n: u64, word: &[u8], refusal: u8) {
-    start(n, word);
-    io::print_decimal(1, refusal as u64);
-    io::write_all(1, b"\n");
+fn refused(rt: &impl Print, n: u64, word: &str, refusal: u8) -> io::Result<()> {
+    start(rt, n, word)?;
+    println!(rt; "{refusal}")
 }
 
-fn print_name(n: u64, cue: Cue) {
+fn print_name(rt: &impl Print, n: u64, cue: Cue) -> io::Result<()> {
     match cue {
-        Cue::Cmd => start(n, b" SCTE35-CMD"),
-        Cue::Out => start(n, b" SCTE35-OUT"),
-        Cue::In => start(n, b" SCTE35-IN"),
+        Cue::Cmd => start(rt, n, " SCTE35-CMD"),
+        Cue::Out => start(rt, n, " SCTE35-OUT"),
+        Cue::In => start(rt, n, " SCTE35-IN"),
     }
 }
 
-fn print_digits(bytes: &[u8], size: usize) {
+fn print_digits(rt: &impl Print, bytes: &[u8], size: usize) -> io::Result<()> {
     let mut i: usize = 0;
     while i < size {
         if i < bytes.len() {
-            io::print_hex(1, wide(bytes[i]), 2);
+            let byte = bytes[i];
+            print!(rt; "{byte:02x}")?;
         }
         i += 1;
     }
+    Ok(())
 }
 
-fn print_first(bytes: &[u8], size: usize) {
+fn print_first(rt: &impl Print, bytes: &[u8], size: usize) -> io::Result<()> {
     if size <= bytes.len() {
-        io::write_all(1, &bytes[..size]);
+        rt.write_all(&bytes[..size])?;
     }
-    io::write_all(1, b"\n");
+    println!(rt)
 }
 
-fn write_one(n: u64, section: &[u8], id: &[u8], date: &[u8], out: &mut [u8]) {
+fn write_one(
+    rt: &impl Print,
+    n: u64,
+    section: &[u8],
+    id: &[u8],
+    date: &[u8],
+    out: &mut [u8],
+) -> io::Result<()> {
     match write_daterange(section, id, date, out) {
-        Written::Refused(r) => refused(n, b" not written ", r),
+        Written::Refused(r) => refused(rt, n, " not written ", r),
         Written::Wrote(size) => {
-            start(n, b" line ");
-            print_first(out, size);
+            start(rt, n, " line ")?;
+            print_first(rt, out, size)
         }
     }
 }
 
 // The section that stands at the buffer's start.
-fn write_held(n: u64, buffer: &[u8], size: usize, id: &[u8], date: &[u8], out: &mut [u8]) {
+fn write_held(
+    rt: &impl Print,
+    n: u64,
+    buffer: &[u8],
+    size: usize,
+    id: &[u8],
+    date: &[u8],
+    out: &mut [u8],
+) -> io::Result<()> {
     if size <= buffer.len() {
-        write_one(n, &buffer[..size], id, date, out);
+        write_one(rt, n, &buffer[..size], id, date, out)?;
     }
+    Ok(())
 }
 
-fn print_reading(n: u64, line: &[u8], x: Reading, buffer: &[u8]) {
+fn print_reading(
+    rt: &impl Print,
+    n: u64,
+    line: &[u8],
+    x: Reading,
+    buffer: &[u8],
+) -> io::Result<()> {
     let id = x.id;
     let date = x.date;
     let cue = x.cue;
-    print_name(n, cue);
-    io::write_all(1, b" id ");
-    io::write_all(1, view(line, id));
-    io::write_all(1, b" date ");
-    io::write_all(1, view(line, date));
-    io::write_all(1, b" section ");
-    print_digits(buffer, x.len);
-    io::write_all(1, b"\n");
+    print_name(rt, n, cue)?;
+    print!(rt; " id ")?;
+    rt.write_all(view(line, id))?;
+    print!(rt; " date ")?;
+    rt.write_all(view(line, date))?;
+    print!(rt; " section ")?;
+    print_digits(rt, buffer, x.len)?;
+    println!(rt)
 }
 
 // The section that was read last stands at the buffer's start; its length is told.
-fn read_one(n: u64, line: &[u8], held: usize, buffer: &mut [u8], out: &mut [u8]) -> usize {
+fn read_one(
+    rt: &impl Print,
+    n: u64,
+    line: &[u8],
+    held: usize,
+    buffer: &mut [u8],
+    out: &mut [u8],
+) -> io::Result<usize> {
     match read_line(line, buffer) {
         Read::Refused(r) => {
-            refused(n, b" refused ", r);
-            return held;
+            refused(rt, n, " refused ", r)?;
+            Ok(held)
         }
         Read::Is(x) => {
             let id = x.id;
             let date = x.date;
-            print_reading(n, line, x, buffer);
-            write_held(n, buffer, x.len, view(line, id), view(line, date), out);
-            return x.len;
+            print_reading(rt, n, line, x, buffer)?;
+            write_held(rt, n, buffer, x.len, view(line, id), view(line, date), out)?;
+            Ok(x.len)
         }
     }
 }
 
-fn one(n: u64, line: &[u8], held: usize, buffer: &mut [u8], out: &mut [u8]) -> usize {
+fn one(
+    rt: &impl Print,
+    n: u64,
+    line: &[u8],
+    held: usize,
+    buffer: &mut [u8],
+    out: &mut [u8],
+) -> io::Result<usize> {
     if line.len() == 0 {
-        return held;
+        return Ok(held);
     }
     let first = line[0];
     if first == 0x2B {
-        write_held(n, buffer, held, &line[1..], b"2026-01-01T00:00:00Z", out);
-        return held;
+        write_held(
+            rt,
+            n,
+            buffer,
+            held,
+            &line[1..],
+            b"2026-01-01T00:00:00Z",
+            out,
+        )?;
+        return Ok(held);
     }
     if first == 0x2D {
-        write_held(n, buffer, held, b"1", &line[1..], out);
-        return held;
+        write_held(rt, n, buffer, held, b"1", &line[1..], out)?;
+        return Ok(held);
     }
-    read_one(n, line, held, buffer, out)
+    read_one(rt, n, line, held, buffer, out)
 }
 
 // Where the line ends that begins at a place.
@@ -127,22 +172,23 @@ fn line_end(text: &[u8], at: usize) -> usize
     i
 }
 
-fn lines(text: &[u8], buffer: &mut [u8], out: &mut [u8]) {
+fn lines(rt: &impl Print, text: &[u8], buffer: &mut [u8], out: &mut [u8]) -> io::Result<()> {
     let mut at: usize = 0;
     let mut n: u64 = 1;
     let mut held: usize = 0;
     while at < text.len() {
         let end = line_end(text, at);
-        held = one(n, &text[at..end], held, buffer, out);
+        held = one(rt, n, &text[at..end], held, buffer, out)?;
         at = end + 1;
         n += 1;
     }
+    Ok(())
 }
 
-fn main() {
+fn main(rt: HostRuntime) -> io::Result<()> {
     let mut text = [0u8; 65536];
     let mut buffer = [0u8; 4200];
     let mut out = [0u8; 8300];
-    let n = io::read_full(0, &mut text);
-    lines(&text[..n], &mut buffer, &mut out);
+    let n = read_full(&mut rt.reader(), &mut text)?;
+    lines(&rt, &text[..n], &mut buffer, &mut out)
 }

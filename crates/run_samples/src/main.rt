@@ -6,79 +6,82 @@ ghost use Rattle.std.specs.Prelude.{◌<◌};
 
 use command::SpliceCommand;
 use command::insert::{InsertDetail, SpliceDetail, SpliceInsert, SpliceMode};
+use read_input::read_full;
 use section::{Section, SectionRead, read_section};
 use splice_time::SpliceTime;
 use splice_time::break_duration::Break;
+use std::io;
 
 // A label and its number.
-fn item(label: &[u8], number: u64) {
-    io::write_all(1, label);
-    io::print_decimal(1, number);
+fn item(rt: &impl Print, label: &str, number: u64) -> io::Result<()> {
+    print!(rt; "{label}{number}")
 }
 
-fn word(command: SpliceCommand) {
+fn word(rt: &impl Print, command: SpliceCommand) -> io::Result<()> {
     match command {
-        SpliceCommand::SpliceNull => io::write_all(1, b"null"),
-        SpliceCommand::SpliceInsert(_) => io::write_all(1, b"insert"),
-        SpliceCommand::TimeSignal(_) => io::write_all(1, b"time_signal"),
-        SpliceCommand::BandwidthReservation => io::write_all(1, b"bandwidth_reservation"),
-        SpliceCommand::PrivateCommand(_) => io::write_all(1, b"private"),
-    };
+        SpliceCommand::SpliceNull => print!(rt; "null"),
+        SpliceCommand::SpliceInsert(_) => print!(rt; "insert"),
+        SpliceCommand::TimeSignal(_) => print!(rt; "time_signal"),
+        SpliceCommand::BandwidthReservation => print!(rt; "bandwidth_reservation"),
+        SpliceCommand::PrivateCommand(_) => print!(rt; "private"),
+    }
 }
 
 // A time if one is specified.
-fn time(t: SpliceTime) {
+fn time(rt: &impl Print, t: SpliceTime) -> io::Result<()> {
     if let SpliceTime::At(ticks) = t {
-        item(b";time=", ticks);
+        item(rt, ";time=", ticks)?;
     }
+    Ok(())
 }
 
 // What is not cancelled.
-fn active(event: u64, x: InsertDetail) {
+fn active(rt: &impl Print, event: u64, x: InsertDetail) -> io::Result<()> {
     let mode = x.splice_mode;
     match mode {
-        SpliceMode::Program(t) => time(t),
-        SpliceMode::Components(n) => item(b";components=", n as u64),
+        SpliceMode::Program(t) => time(rt, t)?,
+        SpliceMode::Components(n) => item(rt, ";components=", n as u64)?,
     }
-    item(b";event=", event);
+    item(rt, ";event=", event)?;
     let out = x.network_indicator;
-    item(b";out=", out.flag() as u64);
+    item(rt, ";out=", out.flag() as u64)?;
     let duration = x.duration;
     if let Break::Lasts(d) = duration {
-        item(b";duration=", d.duration);
+        item(rt, ";duration=", d.duration)?;
     }
+    Ok(())
 }
 
-fn insert(i: SpliceInsert) {
+fn insert(rt: &impl Print, i: SpliceInsert) -> io::Result<()> {
     let event = i.splice_event_id as u64;
     let detail = i.splice_detail;
     match detail {
-        SpliceDetail::Cancel => item(b";cancelled=", event),
-        SpliceDetail::Insert(x) => active(event, x),
+        SpliceDetail::Cancel => item(rt, ";cancelled=", event),
+        SpliceDetail::Insert(x) => active(rt, event, x),
     }
 }
 
-fn accepted(s: Section) {
-    io::write_all(1, b"command=");
+fn accepted(rt: &impl Print, s: Section) -> io::Result<()> {
+    print!(rt; "command=")?;
     let command = s.command;
-    word(command);
-    item(b";adjustment=", s.header.pts_adjustment);
-    item(b";tier=", s.header.tier as u64);
+    word(rt, command)?;
+    item(rt, ";adjustment=", s.header.pts_adjustment)?;
+    item(rt, ";tier=", s.header.tier as u64)?;
     match command {
-        SpliceCommand::TimeSignal(t) => time(t),
-        SpliceCommand::SpliceInsert(i) => insert(i),
+        SpliceCommand::TimeSignal(t) => time(rt, t)?,
+        SpliceCommand::SpliceInsert(i) => insert(rt, i)?,
         _ => {}
     }
-    item(b";loop=", s.descriptors.at as u64);
-    item(b":", s.descriptors.len as u64);
+    item(rt, ";loop=", s.descriptors.at as u64)?;
+    item(rt, ":", s.descriptors.len as u64)
 }
 
-fn report(bytes: &[u8]) {
+fn report(rt: &impl Print, bytes: &[u8]) -> io::Result<()> {
     match read_section(bytes) {
-        SectionRead::Is(s) => accepted(s),
-        SectionRead::Refused(r) => item(b"refused ", r.number() as u64),
+        SectionRead::Is(s) => accepted(rt, s)?,
+        SectionRead::Refused(r) => item(rt, "refused ", r.number() as u64)?,
     }
-    io::write_all(1, b"\n");
+    println!(rt)
 }
 
 fn digit(c: u8) -> u8
@@ -92,14 +95,14 @@ fn digit(c: u8) -> u8
 }
 
 // Reports the section of each line.
-fn lines(text: &[u8]) {
+fn lines(rt: &impl Print, text: &[u8]) -> io::Result<()> {
     let mut section = [0u8; 4096];
     let mut digits: usize = 0;
     let mut i: usize = 0;
     while i < text.len() {
         if text[i] == b'\n' {
             let bytes = digits / 2;
-            report(&section[..bytes]);
+            report(rt, &section[..bytes])?;
             digits = 0;
         } else if digits < 8192 {
             let place = digits / 2;
@@ -108,10 +111,11 @@ fn lines(text: &[u8]) {
         }
         i += 1;
     }
+    Ok(())
 }
 
-fn main() {
+fn main(rt: HostRuntime) -> io::Result<()> {
     let mut text = [0u8; 8192];
-    let n = io::read_full(0, &mut text);
-    lines(&text[..n]);
+    let n = read_full(&mut rt.reader(), &mut text)?;
+    lines(&rt, &text[..n])
 }

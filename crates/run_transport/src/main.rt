@@ -5,7 +5,8 @@
 
 ghost use Rattle.std.specs.Prelude.{◌<◌, ◌≤◌};
 
-use table::numbers::wide;
+use read_input::read_full;
+use std::io;
 use transport::{Assembler, Fed, Taken, feed, take};
 use transport_packet::packet::Refusal;
 
@@ -20,56 +21,67 @@ fn number(r: Refusal) -> u64 {
 }
 
 // A packet's number and a word.
-fn line(packet: u64, word: &[u8]) {
-    io::print_decimal(1, packet);
-    io::write_all(1, word);
+fn line(rt: &impl Print, packet: u64, word: &str) -> io::Result<()> {
+    print!(rt; "{packet}{word}")
 }
 
-fn value(packet: u64, word: &[u8], n: u64) {
-    line(packet, word);
-    io::print_decimal(1, n);
-    io::write_all(1, b"\n");
+fn value(rt: &impl Print, packet: u64, word: &str, n: u64) -> io::Result<()> {
+    line(rt, packet, word)?;
+    println!(rt; "{n}")
 }
 
-fn print_section(packet: u64, buffer: &[u8], size: usize) {
-    line(packet, b" section ");
+fn print_section(rt: &impl Print, packet: u64, buffer: &[u8], size: usize) -> io::Result<()> {
+    line(rt, packet, " section ")?;
     let mut i: usize = 0;
     while i < size {
         if i < buffer.len() {
-            io::print_hex(1, wide(buffer[i]), 2);
+            let byte = buffer[i];
+            print!(rt; "{byte:02x}")?;
         }
         i += 1;
     }
-    io::write_all(1, b"\n");
+    println!(rt)
 }
 
 // Every section that the packet finishes. It has fewer than 200.
-fn take_all(a: Assembler, number: u64, packet: &[u8], buffer: &mut [u8]) -> Assembler {
+fn take_all(
+    rt: &impl Print,
+    a: Assembler,
+    number: u64,
+    packet: &[u8],
+    buffer: &mut [u8],
+) -> io::Result<Assembler> {
     let mut later = a;
     let mut turns: usize = 200;
     while 0 < turns {
         match take(later, packet, buffer) {
             Taken::Section(size, b) => {
-                print_section(number, buffer, size);
+                print_section(rt, number, buffer, size)?;
                 later = b;
             }
-            Taken::Done(b) => return b,
+            Taken::Done(b) => return Ok(b),
         }
         turns -= 1;
     }
-    later
+    Ok(later)
 }
 
-fn one(a: Assembler, n: u64, packet: &[u8], buffer: &mut [u8]) -> Assembler {
+fn one(
+    rt: &impl Print,
+    a: Assembler,
+    n: u64,
+    packet: &[u8],
+    buffer: &mut [u8],
+) -> io::Result<Assembler> {
     match feed(a, packet, buffer) {
         Fed::Refused(r) => {
-            value(n, b" refused ", number(r));
-            return a;
+            value(rt, n, " refused ", number(r))?;
+            Ok(a)
         }
         Fed::Is(b) => {
-            let later = take_all(b, n, packet, buffer);
-            value(n, b" held ", later.held as u64);
-            return later;
+            let later = take_all(rt, b, n, packet, buffer)?;
+            value(rt, n, " held ", later.held as u64)?;
+            Ok(later)
         }
     }
 }
@@ -85,19 +97,20 @@ fn end_of(len: usize, at: usize) -> usize
     at + 188
 }
 
-fn packets(stream: &[u8], buffer: &mut [u8]) {
+fn packets(rt: &impl Print, stream: &[u8], buffer: &mut [u8]) -> io::Result<()> {
     let mut a = transport::fresh(500);
     let mut at: usize = 0;
     while at < stream.len() {
         let end = end_of(stream.len(), at);
-        a = one(a, (at / 188) as u64, &stream[at..end], buffer);
+        a = one(rt, a, (at / 188) as u64, &stream[at..end], buffer)?;
         at = end;
     }
+    Ok(())
 }
 
-fn main() {
+fn main(rt: HostRuntime) -> io::Result<()> {
     let mut stream = [0u8; 8192];
     let mut buffer = [0u8; 4096];
-    let n = io::read_full(0, &mut stream);
-    packets(&stream[..n], &mut buffer);
+    let n = read_full(&mut rt.reader(), &mut stream)?;
+    packets(&rt, &stream[..n], &mut buffer)
 }

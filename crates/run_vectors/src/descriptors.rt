@@ -11,44 +11,45 @@ use descriptor::segmentation::{
 use descriptor_loop::iteration::step;
 use descriptor_loop::place::bytes_of;
 use descriptor_loop::{Item, ItemRefusal, Step};
+use std::io;
 use table::View;
 use table::lent::view;
 
 // Every item. A step that does not go forward ends the list.
-pub fn items(lent: &[u8]) {
+pub fn items(rt: &impl Print, lent: &[u8]) -> io::Result<()> {
     let mut offset: usize = 0;
     while offset < lent.len() {
         let t = step(lent, offset);
         let next = t.next;
-        io::print_decimal(1, offset as u64);
-        value(next as u64);
-        item(lent, offset, t);
-        io::write_all(1, b"\n");
+        print!(rt; "{offset}")?;
+        value(rt, next as u64)?;
+        item(rt, lent, offset, t)?;
+        println!(rt)?;
         if next <= offset {
-            return;
+            return Ok(());
         }
         offset = next;
     }
+    Ok(())
 }
 
-fn item(lent: &[u8], offset: usize, t: Step) {
+fn item(rt: &impl Print, lent: &[u8], offset: usize, t: Step) -> io::Result<()> {
     let it = t.item;
     match it {
-        Item::End => {}
+        Item::End => Ok(()),
         Item::Refused(r) => match r {
-            ItemRefusal::InvalidDescriptorLength => {
-                io::write_all(1, b" badlength 255");
-            }
-            ItemRefusal::Other(other) => refused(other, bytes_of(lent, it)),
+            ItemRefusal::InvalidDescriptorLength => print!(rt; " badlength 255"),
+            ItemRefusal::Other(other) => refused(rt, other, bytes_of(lent, it)),
         },
         Item::Is(d) => {
             let identifier = t.identifier;
             descriptor(
+                rt,
                 d,
                 bytes_of(lent, it),
                 payload(lent, offset, t.next),
                 identifier,
-            );
+            )
         }
     }
 }
@@ -67,127 +68,141 @@ fn payload(lent: &[u8], offset: usize, next: usize) -> &[u8] {
     view(lent, place)
 }
 
-fn descriptor(d: Descriptor, part: &[u8], payload: &[u8], identifier: [u8; 4]) {
+fn descriptor(
+    rt: &impl Print,
+    d: Descriptor,
+    part: &[u8],
+    payload: &[u8],
+    identifier: [u8; 4],
+) -> io::Result<()> {
     match d {
         Descriptor::Avail(x) => {
-            io::write_all(1, b" avail");
-            value(x.provider_avail_id as u64);
+            print!(rt; " avail")?;
+            value(rt, x.provider_avail_id as u64)
         }
         Descriptor::Dtmf(x) => {
-            io::write_all(1, b" dtmf");
-            value(x.preroll as u64);
-            bytes(part);
+            print!(rt; " dtmf")?;
+            value(rt, x.preroll as u64)?;
+            bytes(rt, part)
         }
-        Descriptor::Segmentation(x) => segmentation(x, part, payload),
+        Descriptor::Segmentation(x) => segmentation(rt, x, part, payload),
         Descriptor::Time(x) => {
-            io::write_all(1, b" time");
-            value(x.tai_seconds);
-            value(x.tai_nanoseconds as u64);
-            value(x.utc_offset as u64);
+            print!(rt; " time")?;
+            value(rt, x.tai_seconds)?;
+            value(rt, x.tai_nanoseconds as u64)?;
+            value(rt, x.utc_offset as u64)
         }
         Descriptor::Reserved {
             tag,
             private_bytes: _,
         } => {
-            io::write_all(1, b" reserved");
-            value(tag as u64);
-            bytes(&identifier);
-            bytes(part);
+            print!(rt; " reserved")?;
+            value(rt, tag as u64)?;
+            bytes(rt, &identifier)?;
+            bytes(rt, part)
         }
     }
 }
 
-fn segmentation(x: SegmentationDescriptor, part: &[u8], payload: &[u8]) {
+fn segmentation(
+    rt: &impl Print,
+    x: SegmentationDescriptor,
+    part: &[u8],
+    payload: &[u8],
+) -> io::Result<()> {
     let detail = x.descriptor_detail;
     match detail {
         DescriptorDetail::Cancel => {
-            io::write_all(1, b" cancel");
-            value(x.segmentation_event_id as u64);
+            print!(rt; " cancel")?;
+            value(rt, x.segmentation_event_id as u64)
         }
         DescriptorDetail::Active(i) => {
-            io::write_all(1, b" segment");
-            value(x.segmentation_event_id as u64);
-            front(i, payload);
+            print!(rt; " segment")?;
+            value(rt, x.segmentation_event_id as u64)?;
+            front(rt, i, payload)?;
             let upid = i.segmentation_upid;
-            identifier(upid, part, payload);
-            back(i);
+            identifier(rt, upid, part, payload)?;
+            back(rt, i)
         }
     }
 }
 
-fn front(i: SegmentationDetail, payload: &[u8]) {
-    flag(i.program_segmentation_flag);
-    flag(i.segmentation_duration_flag);
-    flag(i.delivery_not_restricted_flag);
+fn front(rt: &impl Print, i: SegmentationDetail, payload: &[u8]) -> io::Result<()> {
+    flag(rt, i.program_segmentation_flag)?;
+    flag(rt, i.segmentation_duration_flag)?;
+    flag(rt, i.delivery_not_restricted_flag)?;
     let delivery = i.delivery_restrictions;
-    restrictions(delivery);
+    restrictions(rt, delivery)?;
     let mode = i.segmentation_mode;
     if let SegmentationMode::Component(n) = mode {
-        components(payload, n);
+        components(rt, payload, n)?;
     }
     let duration = i.segmentation_duration;
     if let SegmentationDuration::Ticks(ticks) = duration {
-        io::write_all(1, b" duration");
-        value(ticks);
+        print!(rt; " duration")?;
+        value(rt, ticks)?;
     }
+    Ok(())
 }
 
-fn restrictions(flags: DeliveryRestrictionFlags) {
+fn restrictions(rt: &impl Print, flags: DeliveryRestrictionFlags) -> io::Result<()> {
     if let DeliveryRestrictionFlags::DeliveryRestrictions(r) = flags {
         let device = r.device_restrictions;
-        io::write_all(1, b" restricted");
-        flag(r.web_delivery_allowed_flag);
-        flag(r.no_regional_blackout_flag);
-        flag(r.archive_allowed_flag);
-        value(device.bits() as u64);
+        print!(rt; " restricted")?;
+        flag(rt, r.web_delivery_allowed_flag)?;
+        flag(rt, r.no_regional_blackout_flag)?;
+        flag(rt, r.archive_allowed_flag)?;
+        value(rt, device.bits() as u64)?;
     }
+    Ok(())
 }
 
 fn beside_segmentation(payload: &[u8]) -> Beside {
     beside_of(read_segmentation(payload), payload)
 }
 
-fn components(payload: &[u8], n: u8) {
-    io::write_all(1, b" components");
-    value(n as u64);
+fn components(rt: &impl Print, payload: &[u8], n: u8) -> io::Result<()> {
+    print!(rt; " components")?;
+    value(rt, n as u64)?;
     let count = n as usize;
     let beside = beside_segmentation(payload);
     let list = beside.components;
     let mut i: usize = 0;
     while i < 255 {
         if i < count {
-            component(list[i]);
+            component(rt, list[i])?;
         }
         i += 1;
     }
+    Ok(())
 }
 
-fn component(c: SegmentationComponent) {
-    value(c.component_tag as u64);
-    value(c.pts_offset);
+fn component(rt: &impl Print, c: SegmentationComponent) -> io::Result<()> {
+    value(rt, c.component_tag as u64)?;
+    value(rt, c.pts_offset)
 }
 
 // An EIDR is held by value; any other UPID is a part of what was lent.
-fn identifier(u: SegmentationUpid, part: &[u8], payload: &[u8]) {
+fn identifier(rt: &impl Print, u: SegmentationUpid, part: &[u8], payload: &[u8]) -> io::Result<()> {
     if u.upid_type == 10 {
         let beside = beside_segmentation(payload);
         let eidr = beside.eidr;
-        contents(u.upid_type, &eidr);
-        return;
+        return contents(rt, u.upid_type, &eidr);
     }
-    contents(u.upid_type, part);
+    contents(rt, u.upid_type, part)
 }
 
-fn back(i: SegmentationDetail) {
+fn back(rt: &impl Print, i: SegmentationDetail) -> io::Result<()> {
     let type_id = i.segmentation_type_id;
-    io::write_all(1, b" type");
-    value(type_id.id() as u64);
-    value(i.segment_num as u64);
-    value(i.segments_expected as u64);
+    print!(rt; " type")?;
+    value(rt, type_id.id() as u64)?;
+    value(rt, i.segment_num as u64)?;
+    value(rt, i.segments_expected as u64)?;
     let subs = i.sub_segments;
     if let SubSegments::Is(s) = subs {
-        io::write_all(1, b" sub");
-        value(s.sub_segment_num as u64);
-        value(s.sub_segments_expected as u64);
+        print!(rt; " sub")?;
+        value(rt, s.sub_segment_num as u64)?;
+        value(rt, s.sub_segments_expected as u64)?;
     }
+    Ok(())
 }

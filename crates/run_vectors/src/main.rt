@@ -6,7 +6,9 @@
 
 ghost use Rattle.std.specs.Prelude.{◌<◌};
 
+use read_input::read_full;
 use section::{SectionRead, loop_of, read_section};
+use std::io;
 use table::View;
 use table::lent::view;
 use table::numbers::byte;
@@ -17,30 +19,30 @@ mod say;
 mod upids;
 
 // Header and command in one line, then a line for each item of the loop.
-fn section(s: &[u8]) {
+fn section(rt: &impl Print, s: &[u8]) -> io::Result<()> {
     match read_section(s) {
         SectionRead::Refused(r) => {
-            io::write_all(1, b"refused");
-            say::value(r.number() as u64);
-            io::write_all(1, b"\n");
+            print!(rt; "refused")?;
+            say::value(rt, r.number() as u64)?;
+            println!(rt)
         }
         SectionRead::Is(x) => {
             let header = x.header;
             let command = x.command;
-            commands::header(header);
-            commands::command(s, header, command);
-            io::write_all(1, b"\n");
-            descriptors::items(loop_of(s, x));
+            commands::header(rt, header)?;
+            commands::command(rt, s, header, command)?;
+            println!(rt)?;
+            descriptors::items(rt, loop_of(s, x))
         }
     }
 }
 
-fn report(input: &[u8]) {
+fn report(rt: &impl Print, input: &[u8]) -> io::Result<()> {
     let rest = view(input, after(input, 1));
     match byte(input, 0) {
-        1 => section(rest),
-        2 => descriptors::items(rest),
-        _ => upids::upid(byte(input, 1), view(input, after(input, 2))),
+        1 => section(rt, rest),
+        2 => descriptors::items(rt, rest),
+        _ => upids::upid(rt, byte(input, 1), view(input, after(input, 2))),
     }
 }
 
@@ -66,14 +68,14 @@ fn digit(c: u8) -> u8
 }
 
 // Reports the input of each line: of a section, a byte more than it may have.
-fn lines(text: &[u8]) {
+fn lines(rt: &impl Print, text: &[u8]) -> io::Result<()> {
     let mut input = [0u8; 4098];
     let mut digits: usize = 0;
     let mut i: usize = 0;
     while i < text.len() {
         if text[i] == b'\n' {
             let bytes = digits / 2;
-            report(&input[..bytes]);
+            report(rt, &input[..bytes])?;
             digits = 0;
         } else if digits < 8196 {
             let place = digits / 2;
@@ -82,10 +84,11 @@ fn lines(text: &[u8]) {
         }
         i += 1;
     }
+    Ok(())
 }
 
-fn main() {
+fn main(rt: HostRuntime) -> io::Result<()> {
     let mut text = [0u8; 400_000];
-    let n = io::read_full(0, &mut text);
-    lines(&text[..n]);
+    let n = read_full(&mut rt.reader(), &mut text)?;
+    lines(&rt, &text[..n])
 }

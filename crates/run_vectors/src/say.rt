@@ -1,35 +1,29 @@
 // Numbers, bytes and times.
 use splice_time::SpliceTime;
-use table::numbers::wide;
+use std::io;
 
 // A space and a number.
-pub fn value(x: u64) {
-    io::write_all(1, b" ");
-    io::print_decimal(1, x);
+pub fn value(rt: &impl Print, x: u64) -> io::Result<()> {
+    print!(rt; " {x}")
 }
 
 // An equals sign and bytes in hexadecimal.
-pub fn bytes(s: &[u8]) {
-    io::write_all(1, b" =");
-    let mut i: usize = 0;
-    while i < s.len() {
-        io::print_hex(1, wide(s[i]), 2);
-        i += 1;
+pub fn bytes(rt: &impl Print, s: &[u8]) -> io::Result<()> {
+    print!(rt; " =")?;
+    for byte in s {
+        print!(rt; "{byte:02x}")?;
     }
+    Ok(())
 }
 
-pub fn flag(set: bool) {
-    value(set as u64);
+pub fn flag(rt: &impl Print, set: bool) -> io::Result<()> {
+    value(rt, set as u64)
 }
 
-pub fn time(t: SpliceTime) {
+pub fn time(rt: &impl Print, t: SpliceTime) -> io::Result<()> {
     match t {
-        SpliceTime::Immediate => {
-            io::write_all(1, b" immediate");
-        }
-        SpliceTime::Unspecified => {
-            io::write_all(1, b" unspecified");
-        }
-        SpliceTime::At(ticks) => value(ticks),
+        SpliceTime::Immediate => print!(rt; " immediate"),
+        SpliceTime::Unspecified => print!(rt; " unspecified"),
+        SpliceTime::At(ticks) => value(rt, ticks),
     }
 }
