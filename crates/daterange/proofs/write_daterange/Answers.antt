@@ -14,7 +14,7 @@ write_line-requires c = tt
 
 pub returns-in-Is : goal.returns-in-Is
 returns-in-Is c =
-    let a = c.args in record { answer = (written_line a.section.now a.id.now a.date.now a.target.now _ c.read_section.ensures _ _ _ _ c.in-Is.is c.cue_for.ensures c.write_line.ensures.0 c.write_line.ensures.1).0; bytes = (written_line a.section.now a.id.now a.date.now a.target.now _ c.read_section.ensures _ _ _ _ c.in-Is.is c.cue_for.ensures c.write_line.ensures.0 c.write_line.ensures.1).1 }
+    let a = c.args in record { answer = (written_line a.section.now a.id.now a.date.now a.target.now _ c.read_section.ensures _ _ _ _ c.in-Is.is c.cue_for.ensures c.write_line.ensures.answer c.write_line.ensures.bytes).0; bytes = (written_line a.section.now a.id.now a.date.now a.target.now _ c.read_section.ensures _ _ _ _ c.in-Is.is c.cue_for.ensures c.write_line.ensures.answer c.write_line.ensures.bytes).1 }
 
 pub number-requires : goal.number-requires
 number-requires c = tt

@@ -65,4 +65,4 @@ returns c =
     let a = c.args in
     let s = a.section.now in
     let e = sym c.in-Is.is ∙ c.read_frame.ensures in
-    let is = command_is_lem s a.offset a.part a.upid_type a.new.now _ e _ (sym (command_at s _ (framed s _ e).place) ∙ sym c.read_command.ensures ∙ c.in-Is-read_command.is) in record { answer = c.relabel_in.ensures.0 ∙ ap (λ (m : Made). answer_of m a.target.now) (sym is); bytes = c.relabel_in.ensures.1 ∙ ap (λ (m : Made). later_of m a.target.now) (sym is) }
+    let is = command_is_lem s a.offset a.part a.upid_type a.new.now _ e _ (sym (command_at s _ (framed s _ e).place) ∙ sym c.read_command.ensures ∙ c.in-Is-read_command.is) in record { answer = c.relabel_in.ensures.answer ∙ ap (λ (m : Made). answer_of m a.target.now) (sym is); bytes = c.relabel_in.ensures.bytes ∙ ap (λ (m : Made). later_of m a.target.now) (sym is) }

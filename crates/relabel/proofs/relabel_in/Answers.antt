@@ -61,4 +61,4 @@ returns c =
     let at = spotted_at s a.offset bytes c.requires.2 c.requires.3 yes in
     let lim = rw c.place_of-p.ensures at c.limit_of-limit.ensures in
     let e = made_spotted s a.offset a.part a.upid_type a.new.now yes at bytes (omega (arith, c.ranges.upid_type)) _ lim
-    ∙ ap (λ (p : Place). placed_made s p c.limit_of-limit.result a.part a.upid_type a.new.now) (sym c.place_of-p.ensures) in record { answer = c.relabel_at.ensures.0 ∙ ap (λ (m : Made). answer_of m a.target.now) (sym e); bytes = c.relabel_at.ensures.1 ∙ ap (λ (m : Made). later_of m a.target.now) (sym e) }
+    ∙ ap (λ (p : Place). placed_made s p c.limit_of-limit.result a.part a.upid_type a.new.now) (sym c.place_of-p.ensures) in record { answer = c.relabel_at.ensures.answer ∙ ap (λ (m : Made). answer_of m a.target.now) (sym e); bytes = c.relabel_at.ensures.bytes ∙ ap (λ (m : Made). later_of m a.target.now) (sym e) }
