@@ -88,7 +88,7 @@ first_at [] y tail (step {offset} {next} {xs} inside f t w) e = let z : offset �
 first_at (z ∷ lead) y tail stop e = absurd (omega (arith, ap length e))
 first_at (z ∷ lead) y tail (step {offset} {next} {xs} inside f t w) e =
     let g : xs ≡ lead ++ (y ∷ tail) = cc in
-    omega (arith, first_at lead y tail w g, forward inside t)
+    omega (arith, first_at {at = next} lead y tail w g, forward inside t)
 
 pub lead_within : {loop : List ℕ} {at : ℕ} (lead : List Listed) (y : Listed) (tail : List Listed) {xs : List Listed} → Walked loop at xs → xs ≡ lead ++ (y ∷ tail) → All (Within y.offset) lead
 lead_within [] y tail w e = none

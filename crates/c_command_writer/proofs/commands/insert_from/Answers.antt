@@ -1,0 +1,16 @@
+-- `c_command_writer::commands::insert_from` meets its contract.
+use borrow.Author.Rules.{rules}
+use mathlib.Core.Path.{◌≡◌, ◌∙◌}
+use mathlib.Core.Logic.{⊎_elim}
+use lib.Dec.{eqb}
+use borrow.Author.Tests.{eq-eqb, ne_eqb}
+use Rattle.names.specs.declared.flags.NetworkIndicator.{NetworkIndicator}
+use Rattle.table.specs.Bits.{pick}
+use Rattle.c_command_writer.specs.CommandGiven.{insert_from}
+use Rattle.c_command_writer.proofs.commands.insert_from.Goals as goal
+
+pub returns : goal.returns
+unfolding insert_from
+returns c =
+    let indicated : c.if-i-eq1.network-indicator ≡ pick (eqb c.args.i.out_of_network_indicator 1) NetworkIndicator.Out NetworkIndicator.In = ⊎_elim (λ w. w.1 ∙ rw (eq-eqb _ _ w.0.taken)) (λ w. w.1 ∙ rw (ne_eqb _ _ w.0.left)) c.if-i-eq1.branch in
+    rw (indicated, c.mode_from.ensures, c.break_from.ensures)

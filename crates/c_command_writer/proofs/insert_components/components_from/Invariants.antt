@@ -1,0 +1,23 @@
+-- `c_command_writer::insert_components::components_from`: the first places stand in the array.
+use Prim.Native.Nat.{◌-◌, ◌*◌, ◌≤◌}
+use mathlib.Core.List.{[]}
+use mathlib.Core.Path.{◌≡◌, ap, sym, ◌∙◌}
+use native.Mathlib.Omega.{arith}
+use lib.ListN.{length, length-set}
+use lib.Seq.{paste, paste-zero, drop-drop}
+use Rattle.command.specs.Command.{array}
+use Rattle.command.specs.Insert.{blank}
+use Rattle.command.proofs.Filling.{blank_length}
+use Rattle.c_section.proofs.Arrays.{filled_turn}
+use Rattle.c_command_writer.specs.Words.{places_of}
+use Rattle.c_command_writer.specs.CommandGiven.{component_from, components_from}
+use Rattle.c_command_writer.specs.CommandWords.{insert_components_in}
+use Rattle.c_command_writer.proofs.Words.{places_length, places_at}
+use Rattle.c_command_writer.proofs.Components.{filled_array}
+use Rattle.c_command_writer.proofs.insert_components.components_from.Given as goal
+
+abbrev pub invariant-loop-i : goal.invariant-loop-i
+invariant-loop-i l = (l.i ≤ l.count) × (length l.out ≡ 255) × (l.out ≡ paste (array []) 0 (places_of component_from 3 l.count (insert_components_in l.words)) l.i)
+
+abbrev pub decreases-loop-i : goal.decreases-loop-i
+decreases-loop-i l = l.count - l.i
