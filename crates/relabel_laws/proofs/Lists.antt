@@ -93,12 +93,12 @@ first_at (z ∷ lead) y tail (step {offset} {next} {xs} inside f t w) e =
 pub lead_within : {loop : List ℕ} {at : ℕ} (lead : List Listed) (y : Listed) (tail : List Listed) {xs : List Listed} → Walked loop at xs → xs ≡ lead ++ (y ∷ tail) → All (Within y.offset) lead
 lead_within [] y tail w e = none
 lead_within (z ∷ lead) y tail stop e = absurd (omega (arith, ap length e))
-lead_within {loop} (z ∷ lead) y tail (step {offset} {next} {xs} inside f t w) e =
+lead_within {loop} {at = at} (z ∷ lead) y tail (step {offset} {next} {xs} inside f t w) e =
     let g : xs ≡ lead ++ (y ∷ tail) = cc in
     let h : listed loop offset ≡ z = cc in
     let l : offset < next = forward inside t in
     let n : offset + ((step_of loop offset).next - offset) ≤ y.offset = omega (arith, f, first_at lead y tail w g) in
-    more (subst (λ (x : Listed). Within y.offset x) h n) (lead_within lead y tail w g)
+    more (subst (λ (x : Listed). Within y.offset x) h n) (lead_within {at = next} lead y tail w g)
 
 -- ---- the item itself
 

@@ -29,7 +29,7 @@ is_within-requires c = omega arith
 pub returns-then-not-is_within : goal.returns-then-not-is_within
 returns-then-not-is_within c =
     let a = c.args in
-    stop _ _ _ _ c.loop-i.invariant.1 (within_step a.widths.now a.words.now c.loop-i.i (omega arith)) (sym (w.is_Within.ensures ∙ ap (λ (x : ℕ). ltb x (2 ^ get_or a.widths.now c.loop-i.i 0)) c.word_at.ensures) ∙ not-true _ c.if-not-is_within.true-raw)
+    stop _ _ _ _ c.loop-i.invariant.1 (within_step a.widths.now a.words.now c.loop-i.i (omega arith)) (sym (c.is_within.ensures ∙ ap (λ (x : ℕ). ltb x (2 ^ get_or a.widths.now c.loop-i.i 0)) c.word_at.ensures) ∙ not-true _ c.if-not-is_within.true-raw)
 
 pub overflow_add-i : goal.overflow_add-i
 overflow_add-i c = omega arith
@@ -40,7 +40,7 @@ loop-i-smaller c = omega arith
 pub loop-i-preserved : goal.loop-i-preserved
 loop-i-preserved c =
     let a = c.args in
-    (omega arith, turn _ _ _ _ c.loop-i.invariant.1 (within_step a.widths.now a.words.now c.loop-i.i (omega arith)) (sym (w.is_Within.ensures ∙ ap (λ (x : ℕ). ltb x (2 ^ get_or a.widths.now c.loop-i.i 0)) c.word_at.ensures) ∙ not-false _ c.if-not-is_within.false-raw))
+    (omega arith, turn _ _ _ _ c.loop-i.invariant.1 (within_step a.widths.now a.words.now c.loop-i.i (omega arith)) (sym (c.is_within.ensures ∙ ap (λ (x : ℕ). ltb x (2 ^ get_or a.widths.now c.loop-i.i 0)) c.word_at.ensures) ∙ not-false _ c.if-not-is_within.false-raw))
 
 pub returns : goal.returns
 returns c =

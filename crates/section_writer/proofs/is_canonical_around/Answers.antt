@@ -73,7 +73,8 @@ pub returns-then-bits-ne3 : goal.returns-then-bits-ne3
 returns-then-bits-ne3 c =
     let bytes : List ℕ = c.args.section.now in
     let place : Frame = c.args.frame in
-    let read : (x : SpliceInfoHeader) × (d : SpliceCommand) × (section_of bytes ≡ SectionRead.Is (read_as x d place)) = let v = at_start c in is_read (bytes v) (place v) (laid v) _ (sym c.read_command.ensures ∙ c.in-Is.is) in
+    let laid : FrameRead.Is place ≡ frame_of bytes = c.requires in
+    let read : (x : SpliceInfoHeader) × (d : SpliceCommand) × (section_of bytes ≡ SectionRead.Is (read_as x d place)) = is_read bytes place laid _ (sym c.read_command.ensures ∙ c.in-Is.is) in
     let x = read in
     other_bits bytes (read_as x.0 x.1 place) x.2 _ c.bits.ensures c.if-bits-ne3.true
 
@@ -89,7 +90,8 @@ pub returns-then-bits-section : goal.returns-then-bits-section
 returns-then-bits-section c =
     let bytes : List ℕ = c.args.section.now in
     let place : Frame = c.args.frame in
-    let read : (x : SpliceInfoHeader) × (d : SpliceCommand) × (section_of bytes ≡ SectionRead.Is (read_as x d place)) = let v = at_start c in is_read (bytes v) (place v) (laid v) _ (sym c.read_command.ensures ∙ c.in-Is.is) in
+    let laid : FrameRead.Is place ≡ frame_of bytes = c.requires in
+    let read : (x : SpliceInfoHeader) × (d : SpliceCommand) × (section_of bytes ≡ SectionRead.Is (read_as x d place)) = is_read bytes place laid _ (sym c.read_command.ensures ∙ c.in-Is.is) in
     let x = read in
     other_length bytes (read_as x.0 x.1 place) x.2 _ c.bits.ensures c.if-bits-ne3.false _ c.bits-2.ensures c.if-bits-section.true
 
@@ -97,29 +99,32 @@ pub overflow_add-descriptors : goal.overflow_add-descriptors
 overflow_add-descriptors c =
     let bytes : List ℕ = c.args.section.now in
     let place : Frame = c.args.frame in
-    let read : (x : SpliceInfoHeader) × (d : SpliceCommand) × (section_of bytes ≡ SectionRead.Is (read_as x d place)) = let v = at_start c in is_read (bytes v) (place v) (laid v) _ (sym c.read_command.ensures ∙ c.in-Is.is) in
-    let v = at_start c in
+    let laid : FrameRead.Is place ≡ frame_of bytes = c.requires in
+    let frame_of_lem : frame.Framed bytes place = frame.framed bytes place laid in
+    let read : (x : SpliceInfoHeader) × (d : SpliceCommand) × (section_of bytes ≡ SectionRead.Is (read_as x d place)) = is_read bytes place laid _ (sym c.read_command.ensures ∙ c.in-Is.is) in
     let x = read in
-    let f = frame_of_lem v in
-    let l = loop_at (bytes v) (read_as x.0 x.1 (place v)) x.2 in
+    let f = frame_of_lem in
+    let l = loop_at bytes (read_as x.0 x.1 place) x.2 in
     omega (arith, f.fits, f.short, l.0, l.1)
 
 pub overflow_add-descriptors-2 : goal.overflow_add-descriptors-2
 overflow_add-descriptors-2 c =
     let bytes : List ℕ = c.args.section.now in
     let place : Frame = c.args.frame in
-    let read : (x : SpliceInfoHeader) × (d : SpliceCommand) × (section_of bytes ≡ SectionRead.Is (read_as x d place)) = let v = at_start c in is_read (bytes v) (place v) (laid v) _ (sym c.read_command.ensures ∙ c.in-Is.is) in
-    let v = at_start c in
+    let laid : FrameRead.Is place ≡ frame_of bytes = c.requires in
+    let frame_of_lem : frame.Framed bytes place = frame.framed bytes place laid in
+    let read : (x : SpliceInfoHeader) × (d : SpliceCommand) × (section_of bytes ≡ SectionRead.Is (read_as x d place)) = is_read bytes place laid _ (sym c.read_command.ensures ∙ c.in-Is.is) in
     let x = read in
-    let f = frame_of_lem v in
-    let l = loop_at (bytes v) (read_as x.0 x.1 (place v)) x.2 in
+    let f = frame_of_lem in
+    let l = loop_at bytes (read_as x.0 x.1 place) x.2 in
     omega (arith, f.fits, f.short, l.0, l.1)
 
 pub returns-then-section-descriptors : goal.returns-then-section-descriptors
 returns-then-section-descriptors c =
     let bytes : List ℕ = c.args.section.now in
     let place : Frame = c.args.frame in
-    let read : (x : SpliceInfoHeader) × (d : SpliceCommand) × (section_of bytes ≡ SectionRead.Is (read_as x d place)) = let v = at_start c in is_read (bytes v) (place v) (laid v) _ (sym c.read_command.ensures ∙ c.in-Is.is) in
+    let laid : FrameRead.Is place ≡ frame_of bytes = c.requires in
+    let read : (x : SpliceInfoHeader) × (d : SpliceCommand) × (section_of bytes ≡ SectionRead.Is (read_as x d place)) = is_read bytes place laid _ (sym c.read_command.ensures ∙ c.in-Is.is) in
     let x = read in
     spare_bytes bytes (read_as x.0 x.1 place) x.2 _ c.bits.ensures c.if-bits-ne3.false _ c.bits-2.ensures c.if-bits-section.false c.if-section-descriptors.true
 
@@ -127,6 +132,7 @@ pub returns : goal.returns
 returns c =
     let bytes : List ℕ = c.args.section.now in
     let place : Frame = c.args.frame in
-    let read : (x : SpliceInfoHeader) × (d : SpliceCommand) × (section_of bytes ≡ SectionRead.Is (read_as x d place)) = let v = at_start c in is_read (bytes v) (place v) (laid v) _ (sym c.read_command.ensures ∙ c.in-Is.is) in
+    let laid : FrameRead.Is place ≡ frame_of bytes = c.requires in
+    let read : (x : SpliceInfoHeader) × (d : SpliceCommand) × (section_of bytes ≡ SectionRead.Is (read_as x d place)) = is_read bytes place laid _ (sym c.read_command.ensures ∙ c.in-Is.is) in
     let x = read in
     no_spare_byte bytes (read_as x.0 x.1 place) x.2 _ c.bits.ensures c.if-bits-ne3.false _ c.bits-2.ensures c.if-bits-section.false c.if-section-descriptors.false

@@ -8,9 +8,10 @@ use Rattle.names.specs.declared.flags.NetworkIndicator.{NetworkIndicator}
 use Rattle.table.specs.Bits.{pick}
 use Rattle.c_command_writer.specs.CommandGiven.{insert_from}
 use Rattle.c_command_writer.proofs.commands.insert_from.Goals as goal
+use Rattle.c_command_writer.proofs.commands.insert_from.Goals.{then-i-eq1, else-i-eq1}
 
 pub returns : goal.returns
 unfolding insert_from
 returns c =
-    let indicated : c.if-i-eq1.network-indicator ≡ pick (eqb c.args.i.out_of_network_indicator 1) NetworkIndicator.Out NetworkIndicator.In = ⊎_elim (λ w. w.1 ∙ rw (eq-eqb _ _ w.0.taken)) (λ w. w.1 ∙ rw (ne_eqb _ _ w.0.left)) c.if-i-eq1.branch in
+    let indicated : c.if-i-eq1.network_indicator ≡ pick (eqb c.args.i.out_of_network_indicator 1) NetworkIndicator.Out NetworkIndicator.In = elim c.if-i-eq1.branch [ then-i-eq1 w ↦ w.network_indicator-is ∙ rw (eq-eqb _ _ w.if-i-eq1.true) | else-i-eq1 w ↦ w.network_indicator-is ∙ rw (ne_eqb _ _ w.if-i-eq1.false) ] in
     rw (indicated, c.mode_from.ensures, c.break_from.ensures)

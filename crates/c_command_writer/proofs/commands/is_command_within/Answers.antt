@@ -59,4 +59,4 @@ returns c =
     let fits_4 : let a = c.args in within (33 ∷ 16 ∷ 8 ∷ 8 ∷ []) (drop 12 a.words.now) ≡ true = sym (c.are_four_within-4.ensures ∙ ap (within (33 ∷ 16 ∷ 8 ∷ 8 ∷ [])) c.words_from-3.ensures) ∙ not-false _ c.if-not-are_four_within-4.false-raw in
     let fits_5 : let a = c.args in within (2 ∷ 33 ∷ 32 ∷ 64 ∷ []) (drop 16 a.words.now) ≡ true = sym (c.are_four_within-5.ensures ∙ ap (within (2 ∷ 33 ∷ 32 ∷ 64 ∷ [])) c.words_from-4.ensures) ∙ not-false _ c.if-not-are_four_within-5.false-raw in
     let a = c.args in
-    rw (by_fours a.words.now, fits_1, fits_2, fits_3, fits_4, fits_5) (c.is_Within.ensures ∙ ap (λ (x : ℕ). ltb x (2 ^ 64)) c.word_at.ensures ∙ within_last 64 a.words.now 20)
+    rw (by_fours a.words.now, fits_1, fits_2, fits_3, fits_4, fits_5) (c.is_within.ensures ∙ ap (λ (x : ℕ). ltb x (2 ^ 64)) c.word_at.ensures ∙ within_last 64 a.words.now 20)
