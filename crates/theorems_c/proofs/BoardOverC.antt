@@ -41,6 +41,8 @@ does_so channel (closing id) words answer later d =
 
 run_is : (os : List On) (words : List ℕ) (answers : List FlatBoardAnswer) → LentRun Does words os answers → answers ≡ lent_answers os words
 unfolding lent_answers
+run_is [] words (a ∷ answers) x'' = elim x'' [ ]
+run_is (o ∷ os) words [] x3 = elim x3 [ ]
 run_is [] words [] nothing = refl
 run_is (o ∷ os) words (a ∷ answers) (then answer later d w) =
     let s : (answer ≡ (lent_of o words).answer) × (later ≡ (lent_of o words).words) = does_so o.channel o.call words answer later d in

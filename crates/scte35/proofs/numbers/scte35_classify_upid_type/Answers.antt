@@ -1,0 +1,19 @@
+-- `scte35::numbers::scte35_classify_upid_type` meets its contract.
+use mathlib.Core.Path.{◌≡◌, ap, sym, ◌∙◌}
+use denote.Enum.Declared.{tag_of}
+use borrow.Author.Rules.{rules}
+use Rattle.names.specs.declared.upid.SegmentationUpidType.TheVariants.{Reserved}
+use Rattle.names.specs.Upid.{upid_types, upid_type_of}
+use Rattle.names.specs.contracts.upid.SegmentationUpidType.{the_type}
+use Rattle.names.proofs.Upids.{sound}
+use Rattle.scte35.proofs.Names.{of_name, of_number}
+use borrow.Enum.Refused.{opened}
+use Rattle.scte35.proofs.numbers.scte35_classify_upid_type.Goals as goal
+
+pub returns-in-Reserved : goal.returns-in-Reserved
+unfolding upid_type_of
+returns-in-Reserved c = c.classed.ensures ∙ of_number upid_types c.args.n _ (Reserved c.in-Reserved.k) c.from_type-x.ensures c.in-Reserved.is
+
+pub returns-in_default : goal.returns-in_default
+unfolding upid_type_of
+returns-in_default c = c.classed-in_default.ensures ∙ of_name upid_types (tag_of the_type) sound c.args.n _ c.from_type-x.ensures (opened c.in_default.in_default-own.keys2) _ c.id.ensures

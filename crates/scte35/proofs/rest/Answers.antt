@@ -1,0 +1,20 @@
+-- `scte35::rest` meets its contract.
+use Prim.Native.Nat.{◌-◌, ◌≤◌}
+use mathlib.Core.Path.{◌≡◌}
+use native.Mathlib.Omega.{arith}
+use lib.Seq.{take_all}
+use lib.ListN.{length, drop, length-drop, drop_of_length-le}
+use borrow.Author.Rules.{rules}
+use Rattle.scte35.proofs.rest.Goals as goal
+
+pub returns-then-end-at : goal.returns-then-end-at
+returns-then-end-at c =
+    let a = c.args in
+    let z : length a.s.now - length a.s.now ≡ 0 = omega arith in
+    let h : length a.s.now ≤ a.at = omega arith in
+    rw (z, drop_of_length-le a.s.now h)
+
+pub returns : goal.returns
+returns c =
+    let a = c.args in
+    take_all (length a.s.now - a.at) (drop a.at a.s.now) (omega (arith, length-drop a.at a.s.now))
