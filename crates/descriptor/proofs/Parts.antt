@@ -147,7 +147,7 @@ components_lack s (suc n) i k h = go (ltb (length s - i) 6) refl (components_lac
         let l : 6 ≤ length s - i = ltb-false (length s - i) 6 e in
         let z : (length s - (i + 6)) % 6 ≡ (length s - i) % 6 = omega arith in
         list_turn n blank_component component (bits_of s) (i * 8) _ ((i + 6) * 8) (component_there s i _ _ refl refl (omega arith))
-        ∙ rw (after (omega arith) (omega arith))
+        ∙ (let w = after (omega arith) (omega arith) in rw w)
         ∙ ap lacks_list z
 
 -- with the bytes that they take worked out

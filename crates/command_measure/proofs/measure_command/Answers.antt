@@ -5,6 +5,7 @@ use Rattle.command.specs.Command.{array}
 use Rattle.command_measure.specs.Made.{measured_of}
 use Rattle.command_measure.proofs.Making.{countable, command_insert, made_without_components}
 use borrow.Author.Rules.{rules}
+use borrow.Enum.Refused.{opened}
 use Rattle.command_measure.proofs.measure_command.Goals as goal
 
 pub returns-in-SpliceInsert : goal.returns-in-SpliceInsert
@@ -16,4 +17,4 @@ returns-in-SpliceInsert c =
 pub returns-in_default : goal.returns-in_default
 returns-in_default c =
     let a = c.args in
-    (c.measure_without_components.ensures.0 ∙ ap measured_of (made_without_components a.command (array []) a.components a.lent.now c.in_default.in_default-own.keys2), c.measure_without_components.ensures.1)
+    (c.measure_without_components.ensures.0 ∙ ap measured_of (made_without_components a.command (array []) a.components a.lent.now (opened c.in_default.in_default-own.keys2)), c.measure_without_components.ensures.1)

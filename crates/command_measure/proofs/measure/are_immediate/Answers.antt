@@ -18,4 +18,4 @@ pub returns : goal.returns
 returns c =
     let d : InsertComponent = record { component_tag = 0; splice_time = Immediate } in
     let some : 0 < c.args.n = omega arith in
-    rw (lt-ltb 0 c.args.n some) (c.is_immediate.ensures ∙ ap (λ (x : InsertComponent). immediate x.splice_time) (get_d_any c.args.t2 0 d blank (omega (arith, (let it : length c.args.t2 ≡ 255 = search rules in it)))))
+    rw (lt-ltb 0 c.args.n some) (c.is_immediate.ensures ∙ ap (λ (x : InsertComponent). immediate x.splice_time) (get_d_any c.args.components 0 d blank (omega (arith, (let it : length c.args.components ≡ 255 = search rules in it)))))

@@ -16,7 +16,7 @@ use Rattle.command_measure.proofs.measure.look.Goals as goal
 
 pub loop-i-init : goal.loop-i-init
 loop-i-init c =
-    let z : drop c.args.count (take c.args.count c.args.t1) ≡ [] = drop_of_length-le (take c.args.count c.args.t1) {i = c.args.count} (omega (arith, (let it : length (take c.args.count c.args.t1) ≡ c.args.count = length-take-le c.args.count c.args.t1 (omega (arith, (let it : length c.args.t1 ≡ 255 = search rules in it), c.requires)) in it))) in
+    let z : drop c.args.count (take c.args.count c.args.components) ≡ [] = drop_of_length-le (take c.args.count c.args.components) {i = c.args.count} (omega (arith, (let it : length (take c.args.count c.args.components) ≡ c.args.count = length-take-le c.args.count c.args.components (omega (arith, (let it : length c.args.components ≡ 255 = search rules in it), c.requires)) in it))) in
     (omega arith, rw z (surveyed_nil c.args.at_once), rw z tt)
 
 pub overflow_sub-i : goal.overflow_sub-i
@@ -31,8 +31,8 @@ bounds-components-i c = omega (arith, c.requires)
 pub add_component-s-requires : goal.add_component-s-requires
 add_component-s-requires c =
     let a = c.args in
-    let rest = drop c.loop-i.i (take a.count a.t1) in
-    let n : length rest ≡ a.count - c.loop-i.i = length-drop c.loop-i.i (take a.count a.t1) ∙ ap (λ (k : ℕ). k - c.loop-i.i) ((let it : length (take c.args.count c.args.t1) ≡ c.args.count = length-take-le c.args.count c.args.t1 (omega (arith, (let it : length c.args.t1 ≡ 255 = search rules in it), c.requires)) in it)) in
+    let rest = drop c.loop-i.i (take a.count a.components) in
+    let n : length rest ≡ a.count - c.loop-i.i = length-drop c.loop-i.i (take a.count a.components) ∙ ap (λ (k : ℕ). k - c.loop-i.i) ((let it : length (take c.args.count c.args.components) ≡ c.args.count = length-take-le c.args.count c.args.components (omega (arith, (let it : length c.args.components ≡ 255 = search rules in it), c.requires)) in it)) in
     rw c.loop-i.invariant.1 (omega (arith, survey_bytes a.at_once rest, c.requires))
 
 pub loop-i-smaller : goal.loop-i-smaller
@@ -42,11 +42,11 @@ pub loop-i-preserved : goal.loop-i-preserved
 loop-i-preserved c =
     let a = c.args in
     let j = c.loop-i.i - 1 in
-    let cs = take a.count a.t1 in
+    let cs = take a.count a.components in
     let d : InsertComponent = record { component_tag = 0; splice_time = Immediate } in
     let z : suc j ≡ c.loop-i.i = omega arith in
-    let h : j < length cs = omega (arith, (let it : length (take c.args.count c.args.t1) ≡ c.args.count = length-take-le c.args.count c.args.t1 (omega (arith, (let it : length c.args.t1 ≡ 255 = search rules in it), c.requires)) in it)) in
-    let same : get_or cs j d ≡ get_or a.t1 j d = get_or-take a.count a.t1 j d (omega arith) in
+    let h : j < length cs = omega (arith, (let it : length (take c.args.count c.args.components) ≡ c.args.count = length-take-le c.args.count c.args.components (omega (arith, (let it : length c.args.components ≡ 255 = search rules in it), c.requires)) in it)) in
+    let same : get_or cs j d ≡ get_or a.components j d = get_or-take a.count a.components j d (omega arith) in
     let one = c.add_component-s.ensures in
     let s : c.add_component-s.result ≡ surveyed a.at_once (drop j cs) =
     one.0

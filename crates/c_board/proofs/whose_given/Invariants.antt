@@ -1,0 +1,19 @@
+
+use Prim.Native.Nat.{◌-◌, ◌≤◌, ◌<◌}
+use mathlib.Core.Path.{◌≡◌, sym}
+use native.Mathlib.Omega.{arith}
+use lib.ListN.{length, replicate}
+use lib.Seq.{paste, paste-zero}
+use borrow.Author.Rules.{rules}
+use Rattle.c_section.proofs.Arrays.{filled_turn, filled_all}
+use Rattle.c_board.specs.Words.{whose_given}
+use Rattle.c_board.proofs.Words.{whose_many, whose_there}
+use Rattle.c_board.proofs.whose_given.Reads as reads
+use Rattle.c_board.proofs.whose_given.Lts as lts
+use Rattle.c_board.proofs.whose_given.Given as goal
+
+abbrev pub invariant-loop-i : goal.invariant-loop-i
+invariant-loop-i l = (l.i ≤ 32) × (66 ≤ length l.words) × (l.out ≡ paste (replicate 32 0) 0 (whose_given l.words) l.i)
+
+abbrev pub decreases-loop-i : goal.decreases-loop-i
+decreases-loop-i l = 32 - l.i

@@ -1,0 +1,22 @@
+
+use mathlib.Core.Path.{◌∙◌}
+use native.Mathlib.Omega.{arith}
+use Rattle.c_board.proofs.Words.{ids_of, mark_of, next_of}
+use borrow.Author.Rules.{rules}
+use Rattle.c_board.proofs.word_of.Reads as reads
+use Rattle.c_board.proofs.word_of.Lts as lts
+use Rattle.c_board.proofs.ids_word.Reads as ids_word_reads
+use Rattle.c_board.proofs.mark_word.Reads as mark_word_reads
+use Rattle.c_board.proofs.word_of.Goals as goal
+
+-- src/lib.rt:101:9
+pub returns-then-at-lt-MARKS : goal.returns-then-at-lt-MARKS
+returns-then-at-lt-MARKS c = c.ids_word.ensures ∙ ids_of _ _ _ _ c.if-at-lt-MARKS.true
+
+-- src/lib.rt:104:9
+pub returns-then-at-lt-NEXT : goal.returns-then-at-lt-NEXT
+returns-then-at-lt-NEXT c = c.mark_word.ensures ∙ mark_of _ _ _ _ (omega arith) (omega arith)
+
+-- src/lib.rt:97:1
+pub returns : goal.returns
+returns c = next_of _ _ _ _ (omega arith)

@@ -1,0 +1,8 @@
+-- `c_section::commands::active_insert` meets its contract.
+use borrow.Author.Rules.{rules}
+use Rattle.c_section.specs.FlatCommand.{active_insert}
+use Rattle.c_section.proofs.commands.active_insert.Goals as goal
+
+pub returns : goal.returns
+unfolding active_insert
+returns c = rw (c.flag.ensures, c.flat_mode.ensures, c.flat_break.ensures)

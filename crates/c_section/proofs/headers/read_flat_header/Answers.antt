@@ -1,0 +1,13 @@
+-- `c_section::headers::read_flat_header`: each field the number of the header's, as it stands.
+use mathlib.Core.Path.{sym, ◌∙◌}
+use Rattle.c_section.proofs.Numbers.{flat_too_short, flat_numbers}
+use borrow.Author.Rules.{rules}
+use Rattle.c_section.proofs.headers.read_flat_header.Goals as goal
+
+pub returns-in-Numbers : goal.returns-in-Numbers
+returns-in-Numbers c =
+    flat_numbers c.args.s.now _ _ (sym c.in-Numbers.is ∙ c.read_header_numbers.ensures) c.flat_flag.ensures
+
+pub returns-in-NoHeader : goal.returns-in-NoHeader
+returns-in-NoHeader c =
+    flat_too_short c.args.s.now _ (sym c.in-NoHeader.is ∙ c.read_header_numbers.ensures) c.no_header.ensures

@@ -1,0 +1,30 @@
+-- `command_writer::write_insert`: where the answer is that it is written.
+use mathlib.Core.List.{[]}
+use mathlib.Core.Path.{◌≡◌, sym, ◌∙◌}
+use native.Mathlib.Omega.{arith}
+use Prim.Native.Nat.{ℕ, ◌+◌, ◌≤◌}
+use lib.ListN.{length}
+use Rattle.bit_stores.specs.Written.{answer_of, later_of, refusal_in, bytes_in}
+use Rattle.table.specs.Lent.{stored}
+use Rattle.table.specs.Writing.{contents}
+use Rattle.table.proofs.Bits.{bytes_all}
+use Rattle.table.proofs.Walks.{print_bits}
+use Rattle.command_measure.specs.Fields.{ink, insert_fields}
+use Rattle.command_measure.specs.Made.{counted, insert_made}
+use Rattle.command_writer.proofs.Payloads.{Payload, counted_payload, store_room, store_all, answered, wrote_there, refused_later}
+use borrow.Author.Rules.{rules}
+use Rattle.command_writer.proofs.write_insert.Goals as goal
+
+pub store_insert-requires : goal.store_insert-requires
+store_insert-requires c =
+    let a = c.args in
+    store_room a.target.now 0 _ _ ((let it : let a = c.args in Payload (insert_made (counted a.i a.components)) (ink (insert_fields (counted a.i a.components))) = counted_payload c.args.i c.args.components ((let it : length c.args.components ≡ 255 = search rules in it)) c.measure_insert.ensures.1 ((let it : let a = c.args in let m = insert_made (counted a.i a.components) in (refusal_in m ≡ 0) × (length (bytes_in m) ≤ length a.target.now) × (stored a.target.now 0 (bytes_in m) ≡ later_of m a.target.now) = let a = c.args in wrote_there (insert_made (counted a.i a.components)) a.target.now _ (sym ((let it : let a = c.args in c.answer_measured-answer.result ≡ answer_of (insert_made (counted a.i a.components)) a.target.now = let a = c.args in c.answer_measured-answer.ensures ∙ answered (insert_made (counted a.i a.components)) a.target.now c.measure_insert.result c.measure_insert.ensures.0 (λ z. (counted_payload a.i a.components ((let it : length c.args.components ≡ 255 = search rules in it)) c.measure_insert.ensures.1 z).is) in it)) ∙ c.in-Wrote.is) in it)).0 in it)) ((let it : let a = c.args in 0 + length (bytes_in (insert_made (counted a.i a.components))) ≤ length a.target.now = omega (arith, ((let it : let a = c.args in let m = insert_made (counted a.i a.components) in (refusal_in m ≡ 0) × (length (bytes_in m) ≤ length a.target.now) × (stored a.target.now 0 (bytes_in m) ≡ later_of m a.target.now) = let a = c.args in wrote_there (insert_made (counted a.i a.components)) a.target.now _ (sym ((let it : let a = c.args in c.answer_measured-answer.result ≡ answer_of (insert_made (counted a.i a.components)) a.target.now = let a = c.args in c.answer_measured-answer.ensures ∙ answered (insert_made (counted a.i a.components)) a.target.now c.measure_insert.result c.measure_insert.ensures.0 (λ z. (counted_payload a.i a.components ((let it : length c.args.components ≡ 255 = search rules in it)) c.measure_insert.ensures.1 z).is) in it)) ∙ c.in-Wrote.is) in it)).1) in it))
+
+pub returns-in-Wrote : goal.returns-in-Wrote
+returns-in-Wrote c =
+    let a = c.args in
+    let s = store_all a.target.now 0 _ _ ((let it : let a = c.args in Payload (insert_made (counted a.i a.components)) (ink (insert_fields (counted a.i a.components))) = counted_payload c.args.i c.args.components ((let it : length c.args.components ≡ 255 = search rules in it)) c.measure_insert.ensures.1 ((let it : let a = c.args in let m = insert_made (counted a.i a.components) in (refusal_in m ≡ 0) × (length (bytes_in m) ≤ length a.target.now) × (stored a.target.now 0 (bytes_in m) ≡ later_of m a.target.now) = let a = c.args in wrote_there (insert_made (counted a.i a.components)) a.target.now _ (sym ((let it : let a = c.args in c.answer_measured-answer.result ≡ answer_of (insert_made (counted a.i a.components)) a.target.now = let a = c.args in c.answer_measured-answer.ensures ∙ answered (insert_made (counted a.i a.components)) a.target.now c.measure_insert.result c.measure_insert.ensures.0 (λ z. (counted_payload a.i a.components ((let it : length c.args.components ≡ 255 = search rules in it)) c.measure_insert.ensures.1 z).is) in it)) ∙ c.in-Wrote.is) in it)).0 in it)) ((let it : let a = c.args in 0 + length (bytes_in (insert_made (counted a.i a.components))) ≤ length a.target.now = omega (arith, ((let it : let a = c.args in let m = insert_made (counted a.i a.components) in (refusal_in m ≡ 0) × (length (bytes_in m) ≤ length a.target.now) × (stored a.target.now 0 (bytes_in m) ≡ later_of m a.target.now) = let a = c.args in wrote_there (insert_made (counted a.i a.components)) a.target.now _ (sym ((let it : let a = c.args in c.answer_measured-answer.result ≡ answer_of (insert_made (counted a.i a.components)) a.target.now = let a = c.args in c.answer_measured-answer.ensures ∙ answered (insert_made (counted a.i a.components)) a.target.now c.measure_insert.result c.measure_insert.ensures.0 (λ z. (counted_payload a.i a.components ((let it : length c.args.components ≡ 255 = search rules in it)) c.measure_insert.ensures.1 z).is) in it)) ∙ c.in-Wrote.is) in it)).1) in it)) (bytes_all a.target.now (λ j. (c.slice_known-1.given j).fits)) (print_bits (contents [] (insert_fields (counted a.i a.components)))) _ _ c.store_insert.ensures in record { answer = (let it : let a = c.args in c.answer_measured-answer.result ≡ answer_of (insert_made (counted a.i a.components)) a.target.now = let a = c.args in c.answer_measured-answer.ensures ∙ answered (insert_made (counted a.i a.components)) a.target.now c.measure_insert.result c.measure_insert.ensures.0 (λ z. (counted_payload a.i a.components ((let it : length c.args.components ≡ 255 = search rules in it)) c.measure_insert.ensures.1 z).is) in it); bytes = s ∙ ((let it : let a = c.args in let m = insert_made (counted a.i a.components) in (refusal_in m ≡ 0) × (length (bytes_in m) ≤ length a.target.now) × (stored a.target.now 0 (bytes_in m) ≡ later_of m a.target.now) = let a = c.args in wrote_there (insert_made (counted a.i a.components)) a.target.now _ (sym ((let it : let a = c.args in c.answer_measured-answer.result ≡ answer_of (insert_made (counted a.i a.components)) a.target.now = let a = c.args in c.answer_measured-answer.ensures ∙ answered (insert_made (counted a.i a.components)) a.target.now c.measure_insert.result c.measure_insert.ensures.0 (λ z. (counted_payload a.i a.components ((let it : length c.args.components ≡ 255 = search rules in it)) c.measure_insert.ensures.1 z).is) in it)) ∙ c.in-Wrote.is) in it)).2 }
+
+pub returns-in-Refused : goal.returns-in-Refused
+returns-in-Refused c =
+    let a = c.args in record { answer = (let it : let a = c.args in c.answer_measured-answer.result ≡ answer_of (insert_made (counted a.i a.components)) a.target.now = let a = c.args in c.answer_measured-answer.ensures ∙ answered (insert_made (counted a.i a.components)) a.target.now c.measure_insert.result c.measure_insert.ensures.0 (λ z. (counted_payload a.i a.components ((let it : length c.args.components ≡ 255 = search rules in it)) c.measure_insert.ensures.1 z).is) in it); bytes = refused_later (insert_made (counted a.i a.components)) a.target.now _ (sym ((let it : let a = c.args in c.answer_measured-answer.result ≡ answer_of (insert_made (counted a.i a.components)) a.target.now = let a = c.args in c.answer_measured-answer.ensures ∙ answered (insert_made (counted a.i a.components)) a.target.now c.measure_insert.result c.measure_insert.ensures.0 (λ z. (counted_payload a.i a.components ((let it : length c.args.components ≡ 255 = search rules in it)) c.measure_insert.ensures.1 z).is) in it)) ∙ c.in-Refused.is) }

@@ -1,0 +1,17 @@
+-- `descriptor_loop::iteration::count_items` meets its contract: what was counted and what is left are all the items.
+use Prim.Native.Nat.{◌+◌, ◌-◌, ◌≤◌}
+use mathlib.Core.Path.{◌≡◌}
+use native.Mathlib.Omega.{arith}
+use lib.ListN.{length}
+use borrow.Author.Rules.{rules}
+use borrow.Author.Tests.{lt-ltb}
+use Rattle.descriptor_loop.specs.Items.{items_from, items_of, count_of}
+use Rattle.descriptor_loop.proofs.Lists.{counted_none, counted_one, counted_all, step_forward}
+use Rattle.descriptor_loop.proofs.iteration.count_items.Given as goal
+
+abbrev pub invariant-loop-offset : goal.invariant-loop-offset
+invariant-loop-offset l =
+    (length l.descriptors ≤ 4076) × (l.count ≤ l.offset) × (l.offset ≤ length l.descriptors) × (l.count + length (items_from (length l.descriptors - l.offset) l.descriptors l.offset) ≡ length (items_of l.descriptors))
+
+abbrev pub decreases-loop-offset : goal.decreases-loop-offset
+decreases-loop-offset l = length l.descriptors - l.offset
