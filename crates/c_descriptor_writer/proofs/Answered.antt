@@ -10,7 +10,7 @@ use lib.ListN.{length, get_or, take, drop, replicate}
 use lib.Seq.{take_at, get_or-drop}
 use borrow.Author.Tests.{eqb-true, eqb-false, lt-ltb, le-leb}
 use Rattle.descriptor.specs.Plain as plain
-use Rattle.descriptor.specs.Plain.{private_bytes}
+use Rattle.descriptor.specs.Plain.{private_table}
 use Rattle.descriptor.specs.Segmentation.{blank_component, by_program, count_of, lasting, unrestricted, writable_detail, ticks}
 use Rattle.descriptor.specs.Full.{filled, of_segmentation}
 use Rattle.descriptor.specs.declared.Descriptor.{Descriptor}
@@ -224,14 +224,14 @@ module _ (words : List ℕ) where
     is_private = rw e
 
     private_facts : (id : List ℕ) (b : Beside) (lent : List ℕ) → Facts words id b lent (Descriptor.Reserved (get_or words 30 0 % 256) view_given)
-    unfolding payload_made private_bytes remaining part item_widths
+    unfolding payload_made private_table remaining part item_widths
     private_facts id b lent =
         record {
           count = λ w. rw e;
           writable = refl;
           fit = true;
           told =
-              told_as (make_told (writable_reserved (get_or words 30 0 % 256) id b.eidr) lent (walk private_bytes view_given 0).fields)
+              told_as (make_told (writable_reserved (get_or words 30 0 % 256) id b.eidr) lent (walk private_table view_given 0).fields)
               (rw e (sym (and_unit (leb (get_or words 31 0 + get_or words 32 0) (length lent))))) refl;
           tight = λ w p. rw e (sym (lt-ltb (get_or words 32 0) (2 ^ 64) (step_small words w 27 (lit< tt))));
         }

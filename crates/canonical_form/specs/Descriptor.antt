@@ -6,7 +6,7 @@ use Rattle.table.specs.Lent.{viewed}
 use Rattle.table.specs.Table.{Answer, got, short, parse, canonical_by}
 use Rattle.upid.specs.Upid.{check_of}
 use Rattle.descriptor.specs.Descriptor.{by_kind}
-use Rattle.descriptor.specs.Plain.{avail, dtmf, time, private_bytes}
+use Rattle.descriptor.specs.Plain.{avail, dtmf, time, private_table}
 use Rattle.descriptor.specs.Segmentation.{Segmentation, segmentation}
 use Rattle.descriptor.specs.declared.segmentation.SegmentationUpid.{SegmentationUpid}
 use Rattle.descriptor_measure.specs.Writing.{accepts, upid_in}
@@ -25,7 +25,7 @@ canonical_segmentation s = canonical_by segmentation s && upid_canonical s (pars
 -- a payload, by identifier and tag
 unfoldable pub canonical_payload : ℕ → List ℕ → List ℕ → Bool
 canonical_payload tag identifier s =
-    by_kind tag identifier (canonical_by avail s) (canonical_by dtmf s) (canonical_segmentation s) (canonical_by time s) (canonical_by private_bytes s)
+    by_kind tag identifier (canonical_by avail s) (canonical_by dtmf s) (canonical_segmentation s) (canonical_by time s) (canonical_by private_table s)
 
 -- a whole descriptor: tag, length, identifier of 4, payload; the length is that of what follows it, and no more than 254
 unfoldable pub canonical_descriptor : List ℕ → Bool

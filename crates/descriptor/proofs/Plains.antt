@@ -19,7 +19,7 @@ use Rattle.table.proofs.Cursors.{goes_ones, stops_ones, goes_part, stops_part}
 use Rattle.table.proofs.Steps.{takes_number, takes_remaining, takes_part}
 use Rattle.upid.specs.declared.Refusal as why
 use Rattle.descriptor.specs.Descriptor.{avail_of, dtmf_of, time_of, reserved_of}
-use Rattle.descriptor.specs.Plain.{avail, dtmf, time, private_bytes}
+use Rattle.descriptor.specs.Plain.{avail, dtmf, time, private_table}
 use Rattle.descriptor.specs.Private.{octet_of, lacking}
 use Rattle.descriptor.specs.declared.Descriptor.TheVariants.{Avail, Dtmf, Time, Reserved}
 use Rattle.descriptor.specs.declared.DescriptorRead.TheVariants.{Is, Refused}
@@ -54,11 +54,11 @@ module _ (s : List ℕ) where
 
   -- ---- the rest of the bytes
   pub reserved_is : (tag : ℕ) → Is (Reserved tag (record { at = 0; len = length s })) ≡ reserved_of tag s
-  unfolding reserved_of private_bytes
+  unfolding reserved_of private_table
   reserved_is tag =
       let e : (length s * 8 - 0) / 8 ≡ length s = omega arith in
-      let i : parse private_bytes (bits_of s) 0 ≡ parse (inside (part (length s)) (λ (v : View). v) done) (bits_of s) 0 = takes_remaining s 0 _ _ ∙ rw e in
-      let j : parse private_bytes (bits_of s) 0 ≡ got (record { at = 0; len = length s }) (0 + length s * 8) = i ∙ takes_part s 0 (length s) _ _ (omega arith) in
+      let i : parse private_table (bits_of s) 0 ≡ parse (inside (part (length s)) (λ (v : View). v) done) (bits_of s) 0 = takes_remaining s 0 _ _ ∙ rw e in
+      let j : parse private_table (bits_of s) 0 ≡ got (record { at = 0; len = length s }) (0 + length s * 8) = i ∙ takes_part s 0 (length s) _ _ (omega arith) in
       rw j
 
 -- ---- DTMF, step by step

@@ -13,7 +13,7 @@ use Rattle.table.proofs.Laws.{Tells}
 use Rattle.table.proofs.Leading.{Leads, leads_done, leads_number, leads_ones, leads_part, leads_remaining}
 use Rattle.table.proofs.Structure as laws
 use Rattle.table.proofs.Telling.{tells_number, tells_ones, tells_part, tells_remaining}
-use Rattle.descriptor.specs.Plain.{avail, dtmf, time, private_bytes}
+use Rattle.descriptor.specs.Plain.{avail, dtmf, time, private_table}
 use Rattle.descriptor.specs.declared.plain.AvailDescriptor.{AvailDescriptor}
 use Rattle.descriptor.specs.declared.plain.DTMFDescriptor.{DTMFDescriptor}
 use Rattle.descriptor.specs.declared.plain.TimeDescriptor.{TimeDescriptor}
@@ -125,20 +125,20 @@ pub time_trips : RoundTrips time time_structure
 time_trips = round_trips time time_structure
 
 -- ---- the bytes of a reserved descriptor: nothing may follow, since all are its own
-pub private_tells : Tells private_bytes 0 (λ a y. (a % 8 ≡ 0) × (true ≡ true))
-unfolding private_bytes
+pub private_tells : Tells private_table 0 (λ a y. (a % 8 ≡ 0) × (true ≡ true))
+unfolding private_table
 private_tells =
     tells_remaining _ _ 0 _ λ n.
     tells_part n _ _ 0 _ refl (((let z : (0 + n * 8) % 8 ≡ 0 = omega arith in z, refl), refl), refl)
 
-pub private_leads : (x : View) (m : ℕ) → m ≡ 0 → Leads private_bytes x (record { at = 0; len = x.len }) 0 (x.len * 8) m
-unfolding private_bytes
+pub private_leads : (x : View) (m : ℕ) → m ≡ 0 → Leads private_table x (record { at = 0; len = x.len }) 0 (x.len * 8) m
+unfolding private_table
 private_leads x m e =
     leads_remaining _ _ x _ 0 (x.len * 8) m (omega arith)
     (leads_part x.len _ _ _ _ 0 _ m
     (leads_done x _ _ _ _ m refl (omega arith)))
 
-abbrev pub private_structure : laws.Structure private_bytes
+abbrev pub private_structure : laws.Structure private_table
 private_structure = record {
   writable = λ x. true;
   size = λ x. x.len;
@@ -150,5 +150,5 @@ private_structure = record {
   ends = λ x m h f u. private_leads x m u;
 }
 
-pub private_trips : RoundTrips private_bytes private_structure
-private_trips = round_trips private_bytes private_structure
+pub private_trips : RoundTrips private_table private_structure
+private_trips = round_trips private_table private_structure

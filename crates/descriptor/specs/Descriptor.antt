@@ -8,7 +8,7 @@ use Rattle.upid.specs.Upid.{check_of}
 use Rattle.upid.specs.declared.Refusal.{Refusal}
 use Rattle.upid.specs.declared.Refusal.TheVariants.{InputTooLong, NotEnoughData, UpidLengthTypeMismatch, InvalidUpidContent, InvalidUpidLength}
 use Rattle.upid.specs.declared.UpidRead.{UpidRead}
-use Rattle.descriptor.specs.Plain.{avail, dtmf, time, private_bytes}
+use Rattle.descriptor.specs.Plain.{avail, dtmf, time, private_table}
 use Rattle.descriptor.specs.Segmentation.{ListedFront, Head, head, front, back, active_from}
 use Rattle.descriptor.specs.Views.{without_view}
 use Rattle.descriptor.specs.declared.Descriptor.{Descriptor}
@@ -40,7 +40,7 @@ unfoldable pub time_of : List ℕ → DescriptorRead
 time_of s = at_least 12 s (parse time (bits_of s) 0 and_then λ x at. Is (Time x))
 
 unfoldable pub reserved_of : ℕ → List ℕ → DescriptorRead
-reserved_of tag s = parse private_bytes (bits_of s) 0 and_then λ v at. Is (Reserved tag v)
+reserved_of tag s = parse private_table (bits_of s) 0 and_then λ v at. Is (Reserved tag v)
 
 -- ---- segmentation: the UPID's own rules stand between the fields up to it and those after it
 

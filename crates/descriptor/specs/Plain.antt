@@ -29,8 +29,8 @@ time =
     done (record { tai_seconds = tai_seconds; tai_nanoseconds = tai_nanoseconds; utc_offset = utc_offset })
 
 -- "Other tags or identifiers: reserved, with tag, identifier and bytes": all that is left
-unfoldable pub private_bytes : Table View
-private_bytes =
+unfoldable pub private_table : Table View
+private_table =
     inside remaining (λ v. v.len) λ n.
     inside (part n) (λ v. v) λ v.
     done v

@@ -9,7 +9,7 @@ use lib.ListN.{length, get_or}
 use borrow.Author.Tests.{leb-true, le-leb, eq-eqb, eqb-true}
 use Rattle.table.specs.Bits.{bits_of, field}
 use Rattle.table.proofs.Fields.{field_in}
-use Rattle.descriptor.specs.Plain.{avail, dtmf, time, private_bytes}
+use Rattle.descriptor.specs.Plain.{avail, dtmf, time, private_table}
 use Rattle.table.specs.Table.{canonical_by}
 use Rattle.descriptor_canonical.proofs.Through.{by_through, through_number, through_ones, through_part, through_remaining, guarded, under, over, drops, leb_bytes, eqb_bytes, ends_there, same_test}
 
@@ -27,12 +27,12 @@ time_by s =
     ∙ ends_there 48 96 n (omega arith)
     ∙ eqb_bytes 96 12 (length s) refl
 
-pub private_by : (s : List ℕ) → canonical_by private_bytes s ≡ true
-unfolding private_bytes
+pub private_by : (s : List ℕ) → canonical_by private_table s ≡ true
+unfolding private_table
 private_by s =
     let n : ℕ = length s * 8 in
     let m : ℕ = (n - 0) / 8 in
-    by_through private_bytes s
+    by_through private_table s
     ∙ through_remaining s 0 _ _ _
     ∙ through_part s 0 _ m _ _
     ∙ ap₂ (λ (a b : Bool). a && b) (le-leb (0 + m * 8) n (omega arith)) (eq-eqb (0 + m * 8) n (omega arith))

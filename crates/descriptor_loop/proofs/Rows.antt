@@ -7,7 +7,7 @@ use Rattle.table.specs.Lent.{viewed}
 use Rattle.table.specs.Table.{number, bit, reserved, part, remaining, list}
 use Rattle.upid.specs.Upid as upid
 use Rattle.descriptor.specs.Descriptor.{descriptor_of, is_cuei, avail_of, dtmf_of, segmentation_of, active_of, active_with, reserved_of}
-use Rattle.descriptor.specs.Plain.{avail, dtmf, private_bytes}
+use Rattle.descriptor.specs.Plain.{avail, dtmf, private_table}
 use Rattle.descriptor.specs.Segmentation.{blank_component, delivery_restrictions, component, mode, duration, written_upid, parts, front, sub_segments, back, head, segmentation}
 use Rattle.descriptor.specs.Full.{filled, beside_in, beside_of}
 use Rattle.descriptor.specs.declared.Descriptor.{Descriptor}
@@ -70,7 +70,7 @@ pub data Hold : List Row → Type 0 where
   more : {r : Row} {rs : List Row} → map (told r.loop) (items_of r.loop) ≡ r.items → Hold rs → Hold (r ∷ rs)
 
 pub rows_hold : Hold rows
-unfolding rows items_of items_from step_of complete_at read_at number_of values_of upid.number_of upid.values_of descriptor_of is_cuei avail_of dtmf_of reserved_of avail dtmf private_bytes number reserved part remaining viewed
+unfolding rows items_of items_from step_of complete_at read_at number_of values_of upid.number_of upid.values_of descriptor_of is_cuei avail_of dtmf_of reserved_of avail dtmf private_table number reserved part remaining viewed
 rows_hold = more refl (more refl (more refl (more refl (more refl (more refl (more refl (more refl none)))))))
 
 -- ---- beside a segmentation descriptor: its one component, tag 5 and offset 7, then blanks; and the 12 bytes of its EIDR

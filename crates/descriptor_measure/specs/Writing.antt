@@ -10,7 +10,7 @@ use Rattle.upid.specs.Upid.{check_of}
 use Rattle.upid.specs.declared.UpidRead.{UpidRead}
 use Rattle.descriptor.specs.Descriptor.{is_cuei}
 pub use Rattle.descriptor.specs.Descriptor.{cuei}
-use Rattle.descriptor.specs.Plain.{avail, dtmf, time, private_bytes}
+use Rattle.descriptor.specs.Plain.{avail, dtmf, time, private_table}
 use Rattle.descriptor.specs.Segmentation as table
 use Rattle.descriptor.specs.Segmentation.{component_count, agrees, detail_upid, writable_detail, segmentation}
 use Rattle.descriptor.specs.Views.{with_upids}
@@ -116,7 +116,7 @@ payload_made (Avail x) identifier beside lent = make avail (alone identifier bes
 payload_made (Dtmf x) identifier beside lent = make dtmf (alone identifier beside.eidr) lent x
 payload_made (Segmentation x) identifier beside lent = segmentation_made x identifier beside lent
 payload_made (Time x) identifier beside lent = make time (alone identifier beside.eidr) lent x
-payload_made (Reserved tag bytes) identifier beside lent = make private_bytes (writable_reserved tag identifier beside.eidr) lent bytes
+payload_made (Reserved tag bytes) identifier beside lent = make private_table (writable_reserved tag identifier beside.eidr) lent bytes
 
 abbrev pub tag_of : Descriptor → ℕ
 tag_of (Avail x) = 0

@@ -20,7 +20,7 @@ use Rattle.table.proofs.Lists.{zero_one, and_true}
 use Rattle.table.proofs.Structure as laws
 use Rattle.upid.specs.Upid.{check_of}
 use Rattle.upid.proofs.Walks.{empty}
-use Rattle.descriptor.specs.Plain.{avail, dtmf, time, private_bytes}
+use Rattle.descriptor.specs.Plain.{avail, dtmf, time, private_table}
 use Rattle.descriptor.specs.Segmentation.{component_count, agrees, back_of, count_of, writable_detail, writable_front, front_of, head, active_from, segmentation, detail_upid}
 use Rattle.descriptor.specs.Views.{without_view, detail_views, descriptor_views, with_upids}
 use Rattle.descriptor.specs.declared.Descriptor.{Descriptor}
@@ -113,13 +113,13 @@ module _ (s r : List ℕ) (w : View) (p : List ℕ) where
       (rw (le-leb (w.at + w.len) (length r) h.right))
       (laws.wrote writable s (walk dtmf x 0).fields p e).fit
 
-  private_alike : (writable : Bool) (v : View) → SameView s v r w → make private_bytes writable s v ≡ made p → make private_bytes writable r w ≡ made p
-  unfolding private_bytes fields.remaining fields.part
+  private_alike : (writable : Bool) (v : View) → SameView s v r w → make private_table writable s v ≡ made p → make private_table writable r w ≡ made p
+  unfolding private_table fields.remaining fields.part
   private_alike writable v h e =
-      same_make writable writable s r (walk private_bytes v 0).fields (walk private_bytes w 0).fields p e
+      same_make writable writable s r (walk private_table v 0).fields (walk private_table w 0).fields p e
       (ap₂ (λ (n : ℕ) (b : List ℕ). count n ∷ (bytes b ∷ [])) h.size (same_run s v r w h))
       (rw (le-leb (w.at + w.len) (length r) h.right))
-      (laws.wrote writable s (walk private_bytes v 0).fields p e).fit
+      (laws.wrote writable s (walk private_table v 0).fields p e).fit
 
 -- what is made of a segmentation descriptor, with its EIDR and its components up to the count
 abbrev segment_made : SegmentationDescriptor → List ℕ → List ℕ → List SegmentationComponent → List ℕ → Made
@@ -237,7 +237,7 @@ module _ (lent id : List ℕ) (b c : Beside) (eidrs : b.eidr ≡ c.eidr) where
   payload_beside (Dtmf x) h = ap (λ (e : List ℕ). make dtmf (alone id e) lent x) eidrs
   payload_beside (Segmentation x) h = segment_is x id b lent ∙ ap₂ (λ (e : List ℕ) (cs : List SegmentationComponent). segment_made x id e cs lent) eidrs h ∙ sym (segment_is x id c lent)
   payload_beside (Time x) h = ap (λ (e : List ℕ). make time (alone id e) lent x) eidrs
-  payload_beside (Reserved tag own) h = ap (λ (e : List ℕ). make private_bytes (writable_reserved tag id e) lent own) eidrs
+  payload_beside (Reserved tag own) h = ap (λ (e : List ℕ). make private_table (writable_reserved tag id e) lent own) eidrs
 
 count_of_lem : (w : View) (d : Descriptor) → count_beside (with_view w d) ≡ count_beside d
 count_of_lem w (Avail x) = refl
@@ -328,7 +328,7 @@ module _ (s p id : List ℕ) (b : Beside) where
       ((zero_view x id b s (ap refusal_in e)).1, λ k. none_writable i.segmentation_upid b.eidr s k (all_writable x id b s places p e).2)
 
   pub payload_told : (d : Descriptor) → count_beside d ≤ length b.components → payload_made d id b s ≡ made p → ((view_in d).at + (view_in d).len ≤ length s) × NoneTold d
-  unfolding payload_made dtmf private_bytes fields.number fields.reserved fields.part fields.remaining
+  unfolding payload_made dtmf private_table fields.number fields.reserved fields.part fields.remaining
   payload_told (Avail x) places e = (omega arith, tt)
   payload_told (Dtmf x) places e =
       let v = x.dtmf_chars in
@@ -336,7 +336,7 @@ module _ (s p id : List ℕ) (b : Beside) where
   payload_told (Segmentation x) places e = detail_told x.segmentation_event_id x.descriptor_detail places e
   payload_told (Time x) places e = (omega arith, tt)
   payload_told (Reserved tag v) places e =
-      (leb-true _ _ (and_true (leb (v.at + v.len) (length s)) true (laws.wrote (writable_reserved tag id b.eidr) s (walk private_bytes v 0).fields p e).views).0, tt)
+      (leb-true _ _ (and_true (leb (v.at + v.len) (length s)) true (laws.wrote (writable_reserved tag id b.eidr) s (walk private_table v 0).fields p e).views).0, tt)
 
 pub made_told : (s t id : List ℕ) (b : Beside) (d : Descriptor) → count_beside d ≤ length b.components → descriptor_made d id b s ≡ made t → ((view_in d).at + (view_in d).len ≤ length s) × NoneTold d
 unfolding descriptor_made

@@ -13,7 +13,7 @@ use Rattle.table.specs.declared.View.{View}
 use Rattle.table.proofs.Lists.{and_true}
 use Rattle.table.proofs.Structure as laws
 use Rattle.descriptor.specs.Descriptor.{is_cuei}
-use Rattle.descriptor.specs.Plain.{avail, dtmf, time, private_bytes}
+use Rattle.descriptor.specs.Plain.{avail, dtmf, time, private_table}
 use Rattle.descriptor.specs.declared.Descriptor.TheVariants.{Avail, Dtmf, Time, Reserved}
 use Rattle.descriptor.specs.declared.plain.AvailDescriptor.{AvailDescriptor}
 use Rattle.descriptor.specs.declared.plain.DTMFDescriptor.{DTMFDescriptor}
@@ -76,6 +76,6 @@ module _ (id : List ℕ) (beside : Beside) (lent p : List ℕ) where
   unfolding payload_made canonical_payload
   reserved_canonical tag v e =
       let writable : Bool = writable_reserved tag id beside.eidr in
-      let f = writable_tag tag id beside.eidr (laws.wrote writable lent (walk private_bytes v 0).fields p e).fit in
-      foreign tag id (canonical_by avail p) (canonical_by dtmf p) (canonical_segmentation p) (canonical_by time p) (canonical_by private_bytes p) f.0
-      ∙ (table_write_read private_bytes private_structure (λ x. refl) writable lent v p e tt).1
+      let f = writable_tag tag id beside.eidr (laws.wrote writable lent (walk private_table v 0).fields p e).fit in
+      foreign tag id (canonical_by avail p) (canonical_by dtmf p) (canonical_segmentation p) (canonical_by time p) (canonical_by private_table p) f.0
+      ∙ (table_write_read private_table private_structure (λ x. refl) writable lent v p e tt).1

@@ -14,7 +14,7 @@ use Rattle.table.specs.Bits.{pick, AllBytes}
 use Rattle.table.specs.Writing.{made}
 use Rattle.table.proofs.Lists.{and_true}
 use Rattle.descriptor.specs.Descriptor.{is_cuei, descriptor_of, reserved_of}
-use Rattle.descriptor.specs.Plain.{avail, dtmf, time, private_bytes}
+use Rattle.descriptor.specs.Plain.{avail, dtmf, time, private_table}
 use Rattle.descriptor.specs.Full.{beside_read, identifier_read, full_of}
 use Rattle.descriptor.specs.declared.Descriptor.{Descriptor}
 use Rattle.descriptor.specs.declared.Descriptor.TheVariants.{Avail, Dtmf, Segmentation, Time, Reserved}
@@ -97,7 +97,7 @@ pub record PayloadIs (tag : ℕ) (id p : List ℕ) : Type 0 where
   pub places : count_beside read ≤ length (beside_read (Is read) p).components
 
 module _ (tag : ℕ) (id p : List ℕ) (four : length id ≡ 4) (a : AllBytes p) where
-  foreign : reserved_of tag p ≡ descriptor_of tag id p → is_cuei id && ltb tag 4 ≡ false → canonical_by private_bytes p ≡ true → PayloadIs tag id p
+  foreign : reserved_of tag p ≡ descriptor_of tag id p → is_cuei id && ltb tag 4 ≡ false → canonical_by private_table p ≡ true → PayloadIs tag id p
   foreign e f c =
       let r = reserved_read_write p a tag id f c in
       record { read = Reserved tag r.0; reading = sym e ∙ r.1; tagged = refl; identified = refl; writes = r.2; places = omega arith }
@@ -121,7 +121,7 @@ module _ (tag : ℕ) (id p : List ℕ) (four : length id ≡ 4) (a : AllBytes p)
     as_time t c = let r = time_read_write p a c in record { read = Time r.0; reading = sym (is_time tag id p e t) ∙ r.1; tagged = sym t; identified = own; writes = r.2; places = omega arith }
 
     by_tag : (b₀ b₁ b₂ b₃ : Bool) → eqb tag 0 ≡ b₀ → eqb tag 1 ≡ b₁ → eqb tag 2 ≡ b₂ → eqb tag 3 ≡ b₃
-        → pick b₀ (canonical_by avail p) (pick b₁ (canonical_by dtmf p) (pick b₂ (canonical_segmentation p) (pick b₃ (canonical_by time p) (canonical_by private_bytes p)))) ≡ true → PayloadIs tag id p
+        → pick b₀ (canonical_by avail p) (pick b₁ (canonical_by dtmf p) (pick b₂ (canonical_segmentation p) (pick b₃ (canonical_by time p) (canonical_by private_table p)))) ≡ true → PayloadIs tag id p
     by_tag true b₁ b₂ b₃ e₀ e₁ e₂ e₃ c = as_avail (eqb-true tag 0 e₀) c
     by_tag false true b₂ b₃ e₀ e₁ e₂ e₃ c = as_dtmf (eqb-true tag 1 e₁) c
     by_tag false false true b₃ e₀ e₁ e₂ e₃ c = as_segmentation (eqb-true tag 2 e₂) c
@@ -138,8 +138,8 @@ module _ (tag : ℕ) (id p : List ℕ) (four : length id ≡ 4) (a : AllBytes p)
   payload_is c = go (is_cuei id) refl c
     where
       go : (t : Bool) → is_cuei id ≡ t
-          → pick t (pick (eqb tag 0) (canonical_by avail p) (pick (eqb tag 1) (canonical_by dtmf p) (pick (eqb tag 2) (canonical_segmentation p) (pick (eqb tag 3) (canonical_by time p) (canonical_by private_bytes p)))))
-          (canonical_by private_bytes p) ≡ true
+          → pick t (pick (eqb tag 0) (canonical_by avail p) (pick (eqb tag 1) (canonical_by dtmf p) (pick (eqb tag 2) (canonical_segmentation p) (pick (eqb tag 3) (canonical_by time p) (canonical_by private_table p)))))
+          (canonical_by private_table p) ≡ true
           → PayloadIs tag id p
       go true t c = by_tag t (eqb tag 0) (eqb tag 1) (eqb tag 2) (eqb tag 3) refl refl refl refl c
       go false t c = foreign (is_foreign tag id p t) (rw t) c

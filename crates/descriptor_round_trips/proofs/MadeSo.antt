@@ -18,7 +18,7 @@ use Rattle.table.specs.Table as fields
 use Rattle.table.specs.Writing.{Field, walk, seen, within, contents, print, Made, made, refused}
 use Rattle.table.specs.declared.View.{View}
 use Rattle.table.proofs.Lists.{zero_one, and_true}
-use Rattle.descriptor.specs.Plain.{avail, dtmf, time, private_bytes}
+use Rattle.descriptor.specs.Plain.{avail, dtmf, time, private_table}
 use Rattle.descriptor.specs.Segmentation.{by_program, count_of, front_of, head, lasting, segmentation, sub_segment, ticks, unrestricted}
 use Rattle.descriptor.specs.declared.Descriptor.{Descriptor}
 use Rattle.descriptor.specs.declared.Descriptor.TheVariants.{Avail, Dtmf, Segmentation, Time, Reserved}
@@ -222,7 +222,7 @@ module _ (id : List ℕ) (beside : Beside) (lent : List ℕ) (twelve : length be
   by_view v fits writable q = ap (λ (a : Bool). checked a fits writable q) (and_last (lies_in lent v))
 
   pub tested : (d : Descriptor) → count_beside d ≤ length beside.components → Tested d id beside lent
-  unfolding payload_made avail dtmf time private_bytes fields.number fields.reserved fields.part fields.remaining
+  unfolding payload_made avail dtmf time private_table fields.number fields.reserved fields.part fields.remaining
   tested (Avail x) places = record { writable = alone id beside.eidr; bytes = bytes_of (print (contents lent (walk avail x 0).fields)); is = rw no_view_lem }
   tested (Dtmf x) places =
       let q : List ℕ = bytes_of (print (contents lent (walk dtmf x 0).fields)) in
@@ -230,7 +230,7 @@ module _ (id : List ℕ) (beside : Beside) (lent : List ℕ) (twelve : length be
   tested (Segmentation x) places = detail_tested x.segmentation_event_id x.descriptor_detail places
   tested (Time x) places = record { writable = alone id beside.eidr; bytes = bytes_of (print (contents lent (walk time x 0).fields)); is = rw no_view_lem }
   tested (Reserved tag v) places =
-      let q : List ℕ = bytes_of (print (contents lent (walk private_bytes v 0).fields)) in
+      let q : List ℕ = bytes_of (print (contents lent (walk private_table v 0).fields)) in
       record { writable = writable_reserved tag id beside.eidr; bytes = q; is = by_view v true (writable_reserved tag id beside.eidr) q }
 
 -- ---- what is made

@@ -12,7 +12,7 @@ use Rattle.table.specs.Writing.{Field, walk, contents, print, made, make_of}
 use Rattle.table.proofs.Bits.{all_bytes_n}
 use Rattle.table.proofs.Structure as laws
 use Rattle.table.proofs.Walks.{print_bits}
-use Rattle.descriptor.specs.Plain.{avail, dtmf, time, private_bytes}
+use Rattle.descriptor.specs.Plain.{avail, dtmf, time, private_table}
 use Rattle.descriptor.specs.Segmentation.{writable_detail, segmentation}
 use Rattle.descriptor.specs.Full.{full_of, identifier_read, beside_read}
 use Rattle.descriptor.specs.declared.Descriptor.{Descriptor}
@@ -52,7 +52,7 @@ module _ (id : List ℕ) (beside : Beside) (lent p : List ℕ) where
       are_bytes (writable_detail (written_detail x.descriptor_detail)) (upid_source (upid_in x) beside.eidr lent) (walk segmentation (written x beside.components) 0).fields p
       (by_table x id beside lent (counted (Segmentation x) h) p e)
   payload_bytes (Time x) h e = are_bytes (alone id beside.eidr) lent (walk time x 0).fields p e
-  payload_bytes (Reserved tag v) h e = are_bytes (writable_reserved tag id beside.eidr) lent (walk private_bytes v 0).fields p e
+  payload_bytes (Reserved tag v) h e = are_bytes (writable_reserved tag id beside.eidr) lent (walk private_table v 0).fields p e
 
   payload_reads_back : (d : Descriptor) → Handed d id beside lent → payload_made d id beside lent ≡ made p → ReadsBack d id beside lent p × (canonical_payload (tag_of d) (identifier_of d id) p ≡ true)
   payload_reads_back (Avail x) h e = (avail_payload_write_read id beside lent p h.four h.twelve x e, avail_canonical id beside lent p x e)

@@ -13,7 +13,7 @@ use Rattle.table.specs.Writing.{made, make}
 use Rattle.table.specs.declared.View.{View}
 use Rattle.table.proofs.Structure as laws
 use Rattle.descriptor.specs.Descriptor.{avail_of, dtmf_of, time_of, reserved_of, is_cuei}
-use Rattle.descriptor.specs.Plain.{avail, dtmf, time, private_bytes}
+use Rattle.descriptor.specs.Plain.{avail, dtmf, time, private_table}
 use Rattle.descriptor.specs.Full.{blank_beside}
 use Rattle.descriptor.specs.declared.Descriptor.TheVariants.{Avail, Dtmf, Time, Reserved}
 use Rattle.descriptor.specs.declared.DescriptorRead.TheVariants.{Is}
@@ -50,9 +50,9 @@ module _ (p : List ℕ) (a : AllBytes p) where
       let i = table_read_write dtmf dtmf_structure (λ x. refl) p a e in
       (i.0, rw i.1, rw blank_alone i.2)
 
-  pub reserved_read_write : (tag : ℕ) (id : List ℕ) → is_cuei id && ltb tag 4 ≡ false → canonical_by private_bytes p ≡ true
+  pub reserved_read_write : (tag : ℕ) (id : List ℕ) → is_cuei id && ltb tag 4 ≡ false → canonical_by private_table p ≡ true
       → (v : View) × (reserved_of tag p ≡ Is (Reserved tag v)) × (payload_made (Reserved tag v) id blank_beside p ≡ made p)
   unfolding reserved_of payload_made writable_reserved all_zero blank_beside
   reserved_read_write tag id h e =
-      let i = table_read_write private_bytes private_structure (λ x. refl) p a e in
+      let i = table_read_write private_table private_structure (λ x. refl) p a e in
       (i.0, rw i.1, rw h i.2)

@@ -15,7 +15,7 @@ use Rattle.table.specs.declared.View.{View}
 use Rattle.table.proofs.Lists.{zero_one, and_true, append_nil}
 use Rattle.table.proofs.Structure as laws
 use Rattle.descriptor.specs.Descriptor.{avail_of, dtmf_of, time_of, reserved_of}
-use Rattle.descriptor.specs.Plain.{avail, dtmf, time, private_bytes}
+use Rattle.descriptor.specs.Plain.{avail, dtmf, time, private_table}
 use Rattle.descriptor.specs.declared.Descriptor.TheVariants.{Avail, Dtmf, Time, Reserved}
 use Rattle.descriptor.specs.declared.DescriptorRead.TheVariants.{Is}
 use Rattle.descriptor.specs.declared.plain.AvailDescriptor.{AvailDescriptor}
@@ -88,16 +88,16 @@ module _ (writable : Bool) (lent : List ℕ) (b : List ℕ) where
         viewed_at b 2 len (omega arith) ∙ same ∙ sym (viewed_at lent at len (leb-true (at + len) (length lent) i.0)),
       )
 
-  pub reserved_write_read : (tag : ℕ) (v : View) → AllBytes lent → make private_bytes writable lent v ≡ made b
+  pub reserved_write_read : (tag : ℕ) (v : View) → AllBytes lent → make private_table writable lent v ≡ made b
       → (reserved_of tag b ≡ Is (Reserved tag (record { at = 0; len = v.len }))) × (viewed b (record { at = 0; len = v.len }) ≡ viewed lent v)
-  unfolding reserved_of private_bytes remaining part
+  unfolding reserved_of private_table remaining part
   reserved_write_read tag v a e =
-      let f = writable_made private_bytes private_structure (λ x. refl) writable lent v b e in
-      let n : length b ≡ v.len = laws.write_size private_bytes private_structure lent v b tt f in
-      let s : Same private_bytes b (record { at = 0; len = v.len }) lent v = laws.write_same private_bytes private_structure lent v b a tt f in
-      let w = (laws.wrote writable lent (walk private_bytes v 0).fields b e).views in
+      let f = writable_made private_table private_structure (λ x. refl) writable lent v b e in
+      let n : length b ≡ v.len = laws.write_size private_table private_structure lent v b tt f in
+      let s : Same private_table b (record { at = 0; len = v.len }) lent v = laws.write_same private_table private_structure lent v b a tt f in
+      let w = (laws.wrote writable lent (walk private_table v 0).fields b e).views in
       let i = and_true (leb (v.at + v.len) (length lent)) true w in
       let same : take v.len (drop 0 b) ≡ take v.len (drop v.at lent) = cc in (
-        rw (table_write_read private_bytes private_structure (λ x. refl) writable lent v b e tt).0,
+        rw (table_write_read private_table private_structure (λ x. refl) writable lent v b e tt).0,
         viewed_at b 0 v.len (omega arith) ∙ same ∙ sym (viewed_at lent v.at v.len (leb-true (v.at + v.len) (length lent) i.0)),
       )

@@ -13,7 +13,7 @@ use Rattle.table.specs.declared.View.{View}
 use Rattle.table.proofs.Lists.{zero_one, and_true}
 use Rattle.table.proofs.Structure as laws
 use Rattle.descriptor.specs.Descriptor.{avail_of, dtmf_of, segmentation_of, time_of, reserved_of, is_cuei, by_kind, descriptor_of}
-use Rattle.descriptor.specs.Plain.{avail, dtmf, time, private_bytes}
+use Rattle.descriptor.specs.Plain.{avail, dtmf, time, private_table}
 use Rattle.descriptor.specs.Full.{blank_beside, beside_read, identifier_read}
 use Rattle.descriptor.specs.declared.Descriptor.{Descriptor}
 use Rattle.descriptor.specs.declared.Descriptor.TheVariants.{Avail, Dtmf, Time, Reserved}
@@ -113,7 +113,7 @@ module _ (id : List ℕ) (beside : Beside) (lent p : List ℕ) (four : length id
   unfolding payload_made descriptor_of
   reserved_payload_write_read tag v a e =
       let writable = writable_reserved tag id beside.eidr in
-      let f = writable_tag tag id beside.eidr (laws.wrote writable lent (walk private_bytes v 0).fields p e).fit in
+      let f = writable_tag tag id beside.eidr (laws.wrote writable lent (walk private_table v 0).fields p e).fit in
       let r = reserved_write_read writable lent p tag v a e in
       record {
         again = Reserved tag (record { at = 0; len = v.len });

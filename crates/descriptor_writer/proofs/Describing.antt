@@ -5,7 +5,7 @@ use mathlib.Core.Path.{◌≡◌}
 use Rattle.table.specs.Table.{number}
 use Rattle.table.specs.Writing.{make}
 use Rattle.table.specs.declared.View.{View}
-use Rattle.descriptor.specs.Plain.{avail, dtmf, time, private_bytes}
+use Rattle.descriptor.specs.Plain.{avail, dtmf, time, private_table}
 use Rattle.descriptor.specs.Full.{filled}
 use Rattle.descriptor.specs.declared.Descriptor.{Descriptor}
 use Rattle.descriptor.specs.declared.Descriptor.TheVariants.{Avail, Dtmf, Segmentation, Time, Reserved}
@@ -36,7 +36,7 @@ module _ (d : Descriptor) (id : List ℕ) (beside : Beside) (lent t v : List ℕ
   unfolding descriptor_made payload_made time number
   as_time x e w = rw e w
 
-  pub as_reserved : (tag : ℕ) (b : View) → d ≡ Reserved tag b → Writes (enveloped_made tag id (make private_bytes (writable_reserved tag id beside.eidr) lent b)) t v r
+  pub as_reserved : (tag : ℕ) (b : View) → d ≡ Reserved tag b → Writes (enveloped_made tag id (make private_table (writable_reserved tag id beside.eidr) lent b)) t v r
       → Writes (descriptor_made d id beside lent) t v r
   unfolding descriptor_made payload_made
   as_reserved tag b e w = rw e w

@@ -16,7 +16,7 @@ use Rattle.table.specs.Writing.{Content, bytes, count, print, Made, made, refuse
 use Rattle.table.specs.declared.View.{View}
 use Rattle.table.specs.declared.cursor.Cursor.{Cursor}
 use Rattle.table.proofs.Bits.{length_num, length_bits, length_bytes_n}
-use Rattle.descriptor.specs.Plain.{avail, dtmf, time, private_bytes}
+use Rattle.descriptor.specs.Plain.{avail, dtmf, time, private_table}
 use Rattle.descriptor.specs.declared.plain.AvailDescriptor.{AvailDescriptor}
 use Rattle.descriptor.specs.declared.plain.DTMFDescriptor.{DTMFDescriptor}
 use Rattle.descriptor.specs.declared.plain.TimeDescriptor.{TimeDescriptor}
@@ -196,15 +196,15 @@ module _ (tag : ℕ) (v : View) (id eidr lent t : List ℕ) (b : Bool) (eb : b �
   private_contents = count v.len ∷ (bytes (take v.len (drop v.at lent)) ∷ [])
 
   abbrev Held : Made
-  Held = make private_bytes (writable_reserved tag id eidr) lent v
+  Held = make private_table (writable_reserved tag id eidr) lent v
 
   pub reserved_31 : not b ≡ true → Writes (enveloped_made tag id Held) t t (Written.Refused 31)
-  unfolding private_bytes remaining part
+  unfolding private_table remaining part
   reserved_31 h = refuses tag id t Held 31 (rw (← eb, not-true b h))
 
   module _ (h : not b ≡ false) (a : Bool) (ea : a ≡ writable_reserved tag id eidr) where
     reserved_makes : Held ≡ pick a (made (bytes_of (print private_contents))) (refused 33)
-    unfolding private_bytes remaining part
+    unfolding private_table remaining part
     reserved_makes = rw (← ea, ← eb, not-false b h)
 
     reserved_bits : length (print private_contents) ≡ v.len * 8

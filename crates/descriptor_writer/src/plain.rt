@@ -1,6 +1,6 @@
 // Avail, DTMF, time and reserved descriptors.
 ghost use Rattle.std.specs.Prelude.{◌≡◌, []};
-ghost use Rattle.descriptor.specs.Plain.{avail, dtmf, time, private_bytes};
+ghost use Rattle.descriptor.specs.Plain.{avail, dtmf, time, private_table};
 ghost use Rattle.descriptor_measure.specs.Writing.{cuei, enveloped_made, alone, writable_reserved};
 ghost use Rattle.table.specs.Writing.{make};
 ghost use Rattle.descriptor_writer.specs.Stores.{Writes};
@@ -98,7 +98,7 @@ pub(crate) fn write_reserved(
     lent: &[u8],
     target: &mut [u8],
 ) -> Written
-    ensures { Writes (enveloped_made tag identifier (make private_bytes (writable_reserved tag identifier eidr) lent.now private_bytes)) target.old target.new result }
+    ensures { Writes (enveloped_made tag identifier (make private_table (writable_reserved tag identifier eidr) lent.now private_bytes)) target.old target.new result }
 {
     if !lies_in(lent, private_bytes) {
         return Written::Refused(31);

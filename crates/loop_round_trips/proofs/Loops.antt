@@ -162,6 +162,8 @@ named loop o t a h d e =
 
 module _ (loop other : List ℕ) (fits : length loop ≤ 4076) (fits₂ : length other ≤ 4076) where
   pub cut_one : {o₁ o₂ : ℕ} {ts us : List (List ℕ)} {xs ys : List Listed} → Items loop fits o₁ ts xs → Items other fits₂ o₂ us ys → All AllBytes ts → All AllBytes us → Pairs (SameItem loop other) xs ys → ts ≡ us
+  cut_one {o₂ = o₂} (end {offset = offset}) (item {t = u} {ts = ts} {xs = xs} b j) _ _ x38 = elim x38 [ ]
+  cut_one {o₂ = o₂} (item {offset = o} {t = t} {ts = ts} {xs = xs} a i) end _ _ x33 = elim x33 [ ]
   cut_one end end none none over = refl
   cut_one (item {offset = o} {t = t} a i) (item {offset = q} {t = u} b j) (more h hs) (more k ks) (pair s ss) =
       let r = s.back in

@@ -15,7 +15,7 @@ use Rattle.table.proofs.Lists.{zero_one, and_true}
 use Rattle.table.specs.Bits.{pick, bits_of}
 use Rattle.table.specs.Table.{Answer, got, short, parse}
 use Rattle.descriptor.specs.Descriptor.{◌and_then◌, avail_of, dtmf_of, segmentation_of, time_of, reserved_of, is_cuei, cuei, descriptor_of}
-use Rattle.descriptor.specs.Plain.{avail, dtmf, time, private_bytes}
+use Rattle.descriptor.specs.Plain.{avail, dtmf, time, private_table}
 use Rattle.descriptor.specs.Segmentation.{cancelled}
 use Rattle.upid.specs.declared.Refusal.TheVariants.{NotEnoughData}
 use Rattle.descriptor.specs.Views.{with_upids}
@@ -70,7 +70,7 @@ module _ (base : ℕ) (s : List ℕ) where
 
   reserved_not : (tag : ℕ) → active_or_not base (reserved_of tag s) ≡ false
   unfolding reserved_of
-  reserved_not tag = then_not base (parse private_bytes (bits_of s) 0) (λ v at. read.Is (Reserved tag v)) λ x m. refl
+  reserved_not tag = then_not base (parse private_table (bits_of s) 0) (λ v at. read.Is (Reserved tag v)) λ x m. refl
 
   -- by tag and identifier
   pub record Tagged (tag : ℕ) (id : List ℕ) : Type 0 where

@@ -10,7 +10,7 @@ use lib.Dec.{eqb, ltb, leb}
 use lib.ListN.{length, take, drop, replicate}
 use lib.Seq.{take_all, take_at}
 use borrow.Author.Tests.{lt-ltb, ltb-true, ltb-false, leb-true, le-leb}
-use Rattle.descriptor.specs.Plain.{dtmf, time, private_bytes}
+use Rattle.descriptor.specs.Plain.{dtmf, time, private_table}
 use Rattle.descriptor.specs.Segmentation.{blank_component, count_of, front_of, segmentation, ticks}
 use Rattle.descriptor.specs.Full.{filled}
 use Rattle.descriptor.specs.declared.Descriptor.{Descriptor}
@@ -229,7 +229,7 @@ module _ (number : ℕ) (id : List ℕ) (beside : Beside) (lent : List ℕ) (sma
       rw (lt-ltb number (2 ^ 32) small, lt-ltb tag 256 h, s.0, s.1)
 
   reserved_unseen : (tag : ℕ) (v : View) → leb (v.at + v.len) (length lent) ≡ false → Wide (payload_made (Descriptor.Reserved tag v) id beside lent)
-  unfolding payload_made private_bytes remaining part
+  unfolding payload_made private_table remaining part
   reserved_unseen tag v e = rw e (omega arith, omega arith)
 
   reserved_wide : (tag : ℕ) (v : View) → tag < 256 → Refuses (Descriptor.Reserved tag v)

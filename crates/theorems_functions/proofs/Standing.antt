@@ -11,7 +11,7 @@ use lib.Seq.{get_or-drop}
 use borrow.Author.Tests.{le-leb, lt-leb}
 use Rattle.c_items.specs.FlatItem.{segmentation_item, flat_descriptor, blank_item, flat_item, flat_step}
 use Rattle.descriptor.specs.Descriptor.{◌and_then◌, by_kind, reported_upid, if_fine, avail_of, dtmf_of, time_of, reserved_of, active_with, active_of, segmentation_of, is_cuei, descriptor_of}
-use Rattle.descriptor.specs.Plain.{avail, dtmf, time, private_bytes}
+use Rattle.descriptor.specs.Plain.{avail, dtmf, time, private_table}
 use Rattle.descriptor.specs.Segmentation.{Head, head, front, back}
 use Rattle.descriptor.specs.declared.Descriptor.{Descriptor}
 use Rattle.descriptor.specs.declared.DescriptorRead.{DescriptorRead}
@@ -75,7 +75,7 @@ module _ (s : List ℕ) (bytes : (k : ℕ) → get_or s k 0 < 256) where
 
   in_reserved : (tag : ℕ) → IsKind 6 (reserved_of tag s)
   unfolding reserved_of flat_descriptor
-  in_reserved tag = and_then_lem (parse private_bytes (bits_of s) 0) _ 6 λ v m e. refl
+  in_reserved tag = and_then_lem (parse private_table (bits_of s) 0) _ 6 λ v m e. refl
 
   in_insert : (event at : ℕ) → IsKind 4 (active_of s event at)
   unfolding active_of active_with flat_descriptor segmentation_item

@@ -17,7 +17,7 @@ use Rattle.upid.specs.Upid.{check_of}
 use Rattle.upid.specs.declared.UpidRead.{UpidRead}
 use Rattle.upid.specs.declared.UpidRead.TheVariants.{Fine, Refused}
 use Rattle.descriptor.specs.Descriptor.{◌and_then◌, reported_upid, if_fine, avail_of, dtmf_of, time_of, reserved_of, active_with, active_of, segmentation_of, is_cuei, descriptor_of}
-use Rattle.descriptor.specs.Plain.{avail, dtmf, time, private_bytes}
+use Rattle.descriptor.specs.Plain.{avail, dtmf, time, private_table}
 use Rattle.descriptor.specs.Segmentation.{ListedFront, Head, head, front, back, active_from, segmentation}
 use Rattle.descriptor.specs.Full.{beside_in, beside_of}
 use Rattle.descriptor.specs.declared.DescriptorRead.{DescriptorRead}
@@ -99,7 +99,7 @@ module _ (s : List ℕ) where
 
   in_reserved : (tag : ℕ) → Every (reserved_of tag s)
   unfolding reserved_of
-  in_reserved tag = and_then_lem (parse private_bytes (bits_of s) 0) _ λ v m e. none
+  in_reserved tag = and_then_lem (parse private_table (bits_of s) 0) _ λ v m e. none
 
   pub sources : (tag : ℕ) (id : List ℕ) → Every (descriptor_of tag id s)
   unfolding descriptor_of

@@ -5,7 +5,7 @@ use Rattle.command.specs.Command.{command_of, components_of, array}
 use Rattle.command.specs.Insert.{time_unless, component, moded, ending, active, insert}
 use Rattle.splice_time.specs.Break.{break_duration}
 use Rattle.descriptor.specs.Descriptor.{descriptor_of, is_cuei, avail_of, dtmf_of, reserved_of, segmentation_of, active_of, active_with}
-use Rattle.descriptor.specs.Plain.{avail, dtmf, private_bytes}
+use Rattle.descriptor.specs.Plain.{avail, dtmf, private_table}
 use Rattle.descriptor.specs.Segmentation.{delivery_restrictions, mode, duration, written_upid, parts, front, sub_segments, back, head}
 use Rattle.splice_time.specs.Time.{splice_time}
 use Rattle.descriptor_loop.specs.Items.{number_of, values_of, read_at, complete_at, step_of, items_from, items_of}
@@ -19,7 +19,7 @@ use Rattle.upid.specs.Upid.{upid_of, check_of, read_of, walk_of, ◌then◌, pla
 use Rattle.theorems_rows.specs.Rows.{inserts_are, Holds, rows}
 
 pub every_row : All Holds rows
-unfolding rows items_of items_from step_of complete_at read_at number_of values_of upid.number_of upid.values_of descriptor_of is_cuei avail_of dtmf_of reserved_of avail dtmf private_bytes number bit reserved part remaining list viewed upid_of check_of read_of walk_of ◌then◌ plain_of length_of is_text reported_of list_of parts_of listed unless_refused text_of done step within command_of canonical_command canonical_by components_of array insert active ending moded break_duration time_unless component splice_time segmentation_of active_of active_with head front parts delivery_restrictions mode duration written_upid back sub_segments names.segmentation_type_of
+unfolding rows items_of items_from step_of complete_at read_at number_of values_of upid.number_of upid.values_of descriptor_of is_cuei avail_of dtmf_of reserved_of avail dtmf private_table number bit reserved part remaining list viewed upid_of check_of read_of walk_of ◌then◌ plain_of length_of is_text reported_of list_of parts_of listed unless_refused text_of done step within command_of canonical_command canonical_by components_of array insert active ending moded break_duration time_unless component splice_time segmentation_of active_of active_with head front parts delivery_restrictions mode duration written_upid back sub_segments names.segmentation_type_of
 every_row =
     more refl (more refl (more refl (more refl (more refl (more refl (more refl
     (more refl (more refl (more refl

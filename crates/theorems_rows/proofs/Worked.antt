@@ -20,7 +20,7 @@ use Rattle.canonical_form.specs.Descriptor.{canonical_upid, canonical_segmentati
 use Rattle.canonical_form.specs.Section.{canonical_frame, canonical_section}
 use Rattle.crc.specs.Crc.{crc_of, crc_bits, crc_bit}
 use Rattle.descriptor.specs.Descriptor.{descriptor_of, is_cuei, segmentation_of, active_of, active_with, avail_of, dtmf_of, time_of, reserved_of}
-use Rattle.descriptor.specs.Plain.{avail, dtmf, time, private_bytes}
+use Rattle.descriptor.specs.Plain.{avail, dtmf, time, private_table}
 use Rattle.descriptor.specs.Segmentation.{delivery_restrictions, mode, duration, written_upid, parts, ListedFront, front, sub_segments, back, Head, head, segmentation}
 use Rattle.descriptor.specs.Full.{beside_of, beside_in, filled}
 use Rattle.header.specs.Header.{header_of, header_read, splice_header}
@@ -67,7 +67,7 @@ pub every_identifier_lem : Identified every_identifier (
     ∷ record { start = 85; len = 4; bytes = 0x01 ∷ 0x02 ∷ 0xAA ∷ 0xBB ∷ [] }
     ∷ record { start = 87; len = 2; bytes = 0xAA ∷ 0xBB ∷ [] }
     ∷ record { start = 106; len = 12; bytes = 0xFF ∷ 0x41 ∷ 0x42 ∷ 0x43 ∷ 0x44 ∷ 0x31 ∷ 0x32 ∷ 0x33 ∷ 0x34 ∷ 0x35 ∷ 0x36 ∷ 0x37 ∷ [] } ∷ [])
-unfolding every_identifier identifiers_of section_of frame_of frame_in accepted moved_read moved command_length command_type command_bytes room_after loop_length loop_place crc_of crc_bits crc_bit header_of header_read splice_header splice_time command_of private items_of items_from step_of complete_at read_at descriptor_of is_cuei segmentation_of active_of active_with dtmf_of reserved_of dtmf private_bytes head front parts delivery_restrictions mode duration written_upid back sub_segments segmentation beside_of beside_in filled number bit reserved part remaining list viewed upid_of check_of read_of walk_of ◌then◌ plain_of length_of is_text reported_of list_of parts_of listed unless_refused eidr_of text_of done step within
+unfolding every_identifier identifiers_of section_of frame_of frame_in accepted moved_read moved command_length command_type command_bytes room_after loop_length loop_place crc_of crc_bits crc_bit header_of header_read splice_header splice_time command_of private items_of items_from step_of complete_at read_at descriptor_of is_cuei segmentation_of active_of active_with dtmf_of reserved_of dtmf private_table head front parts delivery_restrictions mode duration written_upid back sub_segments segmentation beside_of beside_in filled number bit reserved part remaining list viewed upid_of check_of read_of walk_of ◌then◌ plain_of length_of is_text reported_of list_of parts_of listed unless_refused eidr_of text_of done step within
 every_identifier_lem = record {
   section = record {
     header = record {
@@ -157,11 +157,11 @@ another_length e = eqb-false 0x1C 0x1D refl (ap (λ (l : List ℕ). get_or l 2 0
 
 -- ---- a canonical section with every kind of descriptor
 pub every_descriptor_canonical : canonical_section every_descriptor ≡ true
-unfolding every_descriptor canonical_section canonical_frame canonical_command canonical_loop canonical_from canonical_descriptor canonical_payload canonical_segmentation canonical_by canonical_upid number_of section_of frame_of frame_in accepted moved_read moved command_length command_type command_bytes room_after loop_length loop_place crc_of crc_bits crc_bit header_of header_read splice_header splice_time command_of insert active moded ending break_duration time_unless component is_cuei avail dtmf time private_bytes segmentation head front parts delivery_restrictions mode segment.component duration written_upid back sub_segments number bit reserved part remaining list viewed check_of read_of walk_of ◌then◌ plain_of length_of is_text reported_of text_of done step within
+unfolding every_descriptor canonical_section canonical_frame canonical_command canonical_loop canonical_from canonical_descriptor canonical_payload canonical_segmentation canonical_by canonical_upid number_of section_of frame_of frame_in accepted moved_read moved command_length command_type command_bytes room_after loop_length loop_place crc_of crc_bits crc_bit header_of header_read splice_header splice_time command_of insert active moded ending break_duration time_unless component is_cuei avail dtmf time private_table segmentation head front parts delivery_restrictions mode segment.component duration written_upid back sub_segments number bit reserved part remaining list viewed check_of read_of walk_of ◌then◌ plain_of length_of is_text reported_of text_of done step within
 every_descriptor_canonical = refl
 
 pub every_kind : kinds_of every_descriptor ≡ 0 ∷ 1 ∷ 2 ∷ 2 ∷ 3 ∷ 4 ∷ []
-unfolding every_descriptor command_length command_type command_bytes room_after loop_length loop_place items_of items_from step_of complete_at read_at descriptor_of is_cuei avail_of time_of segmentation_of active_of active_with dtmf_of reserved_of avail dtmf time private_bytes segmentation head front parts delivery_restrictions mode segment.component duration written_upid back sub_segments number bit reserved part remaining list viewed check_of read_of walk_of ◌then◌ plain_of length_of is_text reported_of text_of done step within
+unfolding every_descriptor command_length command_type command_bytes room_after loop_length loop_place items_of items_from step_of complete_at read_at descriptor_of is_cuei avail_of time_of segmentation_of active_of active_with dtmf_of reserved_of avail dtmf time private_table segmentation head front parts delivery_restrictions mode segment.component duration written_upid back sub_segments number bit reserved part remaining list viewed check_of read_of walk_of ◌then◌ plain_of length_of is_text reported_of text_of done step within
 every_kind = refl
 
 pub its_insert : (command_type every_descriptor ≡ 0x05)

@@ -22,7 +22,7 @@ use Rattle.command.specs.Command.{array, command_of}
 use Rattle.command_measure.specs.Made.{command_made}
 use Rattle.crc.specs.Crc.{crc_of, crc_bits, crc_bit}
 use Rattle.descriptor.specs.Descriptor.{descriptor_of, is_cuei, segmentation_of, active_of, active_with, dtmf_of}
-use Rattle.descriptor.specs.Plain.{avail, dtmf, private_bytes}
+use Rattle.descriptor.specs.Plain.{avail, dtmf, private_table}
 use Rattle.descriptor.specs.Segmentation.{writable_front, writable_detail, device_of, component, delivery_restrictions, mode, duration, written_upid, parts, front, sub_segments, back, head, segmentation}
 use Rattle.descriptor.specs.Full.{filled}
 use Rattle.descriptor_loop.specs.Items as items
@@ -134,7 +134,7 @@ time_signals_over_c_are_refused_with_32_33_and_36 = ((refl, refl), (refl, refl),
 -- 31: of an avail whose view is (5, 1), with nothing lent; 34: a reserved descriptor of 251 bytes
 pub descriptors_over_c_are_refused_with_31_and_34 : WriteRefused 31 (descriptor_words_made (item_handed 0 1 0 5 1) [] []) (7 ∷ [])
     × WriteRefused 34 (descriptor_words_made (item_handed 0x41424344 6 9 0 251) [] (replicate 251 0)) (replicate 300 7)
-unfolding flat_written answer_of later_of descriptor_words_made descriptor_refusal item.words_refusal item_seen beside_there own_item item_in segmentation_in restrictions_in sub_segments_in descriptor_from identifier_from places_from eidr_from beside_from place_from places_within beside_within each_place places_of within same item_widths place_widths item_words flat_descriptor segmentation_head flat_restrictions flat_sub_segments filled no_less descriptor_made payload_made enveloped_made enveloped all_zero alone writable_reserved is_cuei avail private_bytes number bit reserved part remaining list
+unfolding flat_written answer_of later_of descriptor_words_made descriptor_refusal item.words_refusal item_seen beside_there own_item item_in segmentation_in restrictions_in sub_segments_in descriptor_from identifier_from places_from eidr_from beside_from place_from places_within beside_within each_place places_of within same item_widths place_widths item_words flat_descriptor segmentation_head flat_restrictions flat_sub_segments filled no_less descriptor_made payload_made enveloped_made enveloped all_zero alone writable_reserved is_cuei avail private_table number bit reserved part remaining list
 descriptors_over_c_are_refused_with_31_and_34 = ((refl, refl), (refl, refl))
 
 -- 33: a segmentation with a component, or with an EIDR, and nothing beside it. The same with zeros beside it is written

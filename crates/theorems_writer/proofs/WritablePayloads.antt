@@ -25,7 +25,7 @@ use Rattle.upid.specs.declared.UpidRead.TheVariants.{Fine, Refused}
 use Rattle.descriptor.proofs.Plains.{reserved_is}
 use Rattle.descriptor.proofs.Structures.{avail_structure, dtmf_structure, time_structure, private_structure}
 use Rattle.descriptor.specs.Descriptor.{◌and_then◌, reported_upid, if_fine, avail_of, dtmf_of, time_of, reserved_of, active_with, active_of, segmentation_of, is_cuei, descriptor_of}
-use Rattle.descriptor.specs.Plain.{avail, dtmf, time, private_bytes}
+use Rattle.descriptor.specs.Plain.{avail, dtmf, time, private_table}
 use Rattle.descriptor.specs.Segmentation.{blank_component, ListedFront, Head, head, front, back, active_from, segmentation, writable_front, writable_detail, count_of, mode_size, duration_size, sub_bytes}
 use Rattle.descriptor.specs.Full.{filled, blank_beside, beside_in, beside_of, beside_read, identifier_read}
 use Rattle.descriptor.specs.declared.Descriptor.{Descriptor}
@@ -89,7 +89,7 @@ not_33 {A} (Segmentation x) id beside lent f e = go (lies_in lent (upid_in x).by
     go true false e = apart 32 33 (ap refusal_in e) (λ z. omega arith)
     go true true e = make_33 (writable_segment x id beside.eidr lent) (upid_source (upid_in x) beside.eidr lent) (walk segmentation (written x beside.components) 0).fields f e
 not_33 (Time x) id beside lent f e = make_33 (alone id beside.eidr) lent (walk time x 0).fields f e
-not_33 (Reserved tag v) id beside lent f e = make_33 (writable_reserved tag id beside.eidr) lent (walk private_bytes v 0).fields f e
+not_33 (Reserved tag v) id beside lent f e = make_33 (writable_reserved tag id beside.eidr) lent (walk private_table v 0).fields f e
 
 enveloped_33 : (tag : ℕ) (id : List ℕ) (m : Made) → enveloped_made tag id m ≡ refused 33 → m ≡ refused 33
 unfolding enveloped_made
@@ -223,7 +223,7 @@ module _ (s id : List ℕ) (four : length id ≡ 4) (a : AllBytes s) where
         sees = omega arith;
         numbers = refl;
         writable = f;
-        size = λ p w. omega (arith, write_size private_bytes private_structure s v p tt (ap (λ (f : Bool). make_of f s (walk private_bytes v 0).fields) (sym f) ∙ w));
+        size = λ p w. omega (arith, write_size private_table private_structure s v p tt (ap (λ (f : Bool). make_of f s (walk private_table v 0).fields) (sym f) ∙ w));
       } in
       rw (← reserved_is s tag) r
 

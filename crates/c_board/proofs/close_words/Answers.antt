@@ -25,4 +25,4 @@ pub returns : goal.returns
 unfolding closed
 returns c =
     let e = le-ltb _ 66 c.if-words-lt-BOARD_WORDS.false in
-    let s = c.close_break-t.ensures ∙ ap (λ (b : SharedBoard). close_of b c.args.channel c.args.event) c.board_given.ensures in record { answer = rw (e, ← s) (c.settle.ensures.0 ∙ c.flat_reply.ensures); words = rw (e, ← s, ← c.flat_reply.ensures) c.settle.ensures.1 }
+    let s = c.close_break-t.ensures ∙ ap (λ (b : SharedBoard). close_of b c.args.channel c.args.event) c.board_given.ensures in record { answer = rw (e, ← s) (c.settle.ensures.answer ∙ c.flat_reply.ensures); words = rw (e, ← s, ← c.flat_reply.ensures) c.settle.ensures.words }

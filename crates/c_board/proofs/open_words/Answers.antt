@@ -25,4 +25,4 @@ pub returns : goal.returns
 unfolding opened
 returns c =
     let e = le-ltb _ 66 c.if-words-lt-BOARD_WORDS.false in
-    let s = c.open_break-t.ensures ∙ ap (λ (b : SharedBoard). open_of b c.args.channel c.args.provider) c.board_given.ensures in record { answer = rw (e, ← s) (c.settle.ensures.0 ∙ c.flat_reply.ensures); words = rw (e, ← s, ← c.flat_reply.ensures) c.settle.ensures.1 }
+    let s = c.open_break-t.ensures ∙ ap (λ (b : SharedBoard). open_of b c.args.channel c.args.provider) c.board_given.ensures in record { answer = rw (e, ← s) (c.settle.ensures.answer ∙ c.flat_reply.ensures); words = rw (e, ← s, ← c.flat_reply.ensures) c.settle.ensures.words }

@@ -7,7 +7,7 @@ pub returns-then-refusal-gt0 : goal.returns-then-refusal-gt0
 returns-then-refusal-gt0 c = rw (ne_eqb c.args.measured.refusal 0 (λ e. omega (arith, e, c.if-refusal-gt0.true)))
 
 pub returns-then-room-size : goal.returns-then-room-size
-returns-then-room-size c = let a = c.args in rw (eq-eqb a.decreases.refusal 0 (omega arith), lt-leb a.decreases.size a.room (omega arith))
+returns-then-room-size c = let a = c.args in rw (eq-eqb a.measured.refusal 0 (omega arith), lt-leb a.measured.size a.room (omega arith))
 
 pub returns : goal.returns
-returns c = let a = c.args in rw (eq-eqb a.decreases.refusal 0 (omega arith), le-leb a.decreases.size a.room (omega arith))
+returns c = let a = c.args in rw (eq-eqb a.measured.refusal 0 (omega arith), le-leb a.measured.size a.room (omega arith))

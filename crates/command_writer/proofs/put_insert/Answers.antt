@@ -16,13 +16,19 @@ use Rattle.command_writer.proofs.put_insert.Goals as goal
 
 pub store_insert-requires : goal.store_insert-requires
 store_insert-requires c =
+    let full : length c.args.components ≡ 255 = search rules in
+    let there : let a = c.args in let m = insert_made (counted a.i a.components) in (refusal_in m ≡ 0) × (a.at + length (bytes_in m) ≤ length a.out.now) = let a = c.args in room_there (insert_made (counted a.i a.components)) c.measure_insert.result c.measure_insert.ensures.0 a.at (length a.out.now) (sym c.has_room.ensures ∙ c.if-has_room.true) in
+    let payload : let a = c.args in Payload (insert_made (counted a.i a.components)) (ink (insert_fields (counted a.i a.components))) = counted_payload c.args.i c.args.components full.measure_insert.ensures.1 there.0 in
     let a = c.args in
-    store_room a.out.now a.at _ _ ((let it : let a = c.args in Payload (insert_made (counted a.i a.components)) (ink (insert_fields (counted a.i a.components))) = counted_payload c.args.i c.args.components ((let it : length c.args.components ≡ 255 = search rules in it)) c.measure_insert.ensures.1 ((let it : let a = c.args in let m = insert_made (counted a.i a.components) in (refusal_in m ≡ 0) × (a.at + length (bytes_in m) ≤ length a.out.now) = let a = c.args in room_there (insert_made (counted a.i a.components)) c.measure_insert.result c.measure_insert.ensures.0 a.at (length a.out.now) (sym c.has_room.ensures ∙ c.if-has_room.true) in it)).0 in it)) ((let it : let a = c.args in let m = insert_made (counted a.i a.components) in (refusal_in m ≡ 0) × (a.at + length (bytes_in m) ≤ length a.out.now) = let a = c.args in room_there (insert_made (counted a.i a.components)) c.measure_insert.result c.measure_insert.ensures.0 a.at (length a.out.now) (sym c.has_room.ensures ∙ c.if-has_room.true) in it)).1
+    store_room a.out.now a.at _ _ payload there.1
 
 pub returns-then-has_room : goal.returns-then-has_room
 returns-then-has_room c =
+    let full : length c.args.components ≡ 255 = search rules in
+    let there : let a = c.args in let m = insert_made (counted a.i a.components) in (refusal_in m ≡ 0) × (a.at + length (bytes_in m) ≤ length a.out.now) = let a = c.args in room_there (insert_made (counted a.i a.components)) c.measure_insert.result c.measure_insert.ensures.0 a.at (length a.out.now) (sym c.has_room.ensures ∙ c.if-has_room.true) in
+    let payload : let a = c.args in Payload (insert_made (counted a.i a.components)) (ink (insert_fields (counted a.i a.components))) = counted_payload c.args.i c.args.components full.measure_insert.ensures.1 there.0 in
     let a = c.args in
-    store_all a.out.now a.at _ _ ((let it : let a = c.args in Payload (insert_made (counted a.i a.components)) (ink (insert_fields (counted a.i a.components))) = counted_payload c.args.i c.args.components ((let it : length c.args.components ≡ 255 = search rules in it)) c.measure_insert.ensures.1 ((let it : let a = c.args in let m = insert_made (counted a.i a.components) in (refusal_in m ≡ 0) × (a.at + length (bytes_in m) ≤ length a.out.now) = let a = c.args in room_there (insert_made (counted a.i a.components)) c.measure_insert.result c.measure_insert.ensures.0 a.at (length a.out.now) (sym c.has_room.ensures ∙ c.if-has_room.true) in it)).0 in it)) ((let it : let a = c.args in let m = insert_made (counted a.i a.components) in (refusal_in m ≡ 0) × (a.at + length (bytes_in m) ≤ length a.out.now) = let a = c.args in room_there (insert_made (counted a.i a.components)) c.measure_insert.result c.measure_insert.ensures.0 a.at (length a.out.now) (sym c.has_room.ensures ∙ c.if-has_room.true) in it)).1 (bytes_all a.out.now (λ j. (c.slice_known-1.given j).fits)) (print_bits (contents [] (insert_fields (counted a.i a.components)))) _ _ c.store_insert.ensures
+    store_all a.out.now a.at _ _ payload there.1 (bytes_all a.out.now (λ j. (c.slice_known-1.given j).fits)) (print_bits (contents [] (insert_fields (counted a.i a.components)))) _ _ c.store_insert.ensures
 
 pub returns-else-has_room : goal.returns-else-has_room
 returns-else-has_room c =

@@ -19,25 +19,37 @@ use borrow.Author.Rules.{rules}
 use Rattle.command_writer.proofs.store_without_components.Goals as goal
 
 pub store_insert_without_components-requires : goal.store_insert_without_components-requires
-store_insert_without_components-requires c = store_room c.args.out.now c.args.at _ _ ((let it : let a = c.args in Payload (command_made a.command (array []) a.lent.now) (ink (insert_fields (counted c.in-SpliceInsert.i (array [])))) = let a = c.args in command_insert_payload a.command (array []) a.lent.now c.in-SpliceInsert.i c.in-SpliceInsert.is blank_length (countable (SpliceCommand.SpliceInsert c.in-SpliceInsert.i) a.command (sym c.in-SpliceInsert.is) c.requires.3) c.requires.1 in it)) c.requires.2
+store_insert_without_components-requires c =
+    let inserted : let a = c.args in Payload (command_made a.command (array []) a.lent.now) (ink (insert_fields (counted c.in-SpliceInsert.i (array [])))) = let a = c.args in command_insert_payload a.command (array []) a.lent.now c.in-SpliceInsert.i c.in-SpliceInsert.is blank_length (countable (SpliceCommand.SpliceInsert c.in-SpliceInsert.i) a.command (sym c.in-SpliceInsert.is) c.requires.3) c.requires.1 in
+    store_room c.args.out.now c.args.at _ _ inserted.requires.2
 
 pub store_time-requires : goal.store_time-requires
-store_time-requires c = store_room c.args.out.now c.args.at _ _ ((let it : let a = c.args in Payload (command_made a.command (array []) a.lent.now) (ink (time_fields c.in-TimeSignal.t)) = let a = c.args in command_time_payload a.command (array []) a.lent.now c.in-TimeSignal.t c.in-TimeSignal.is c.requires.1 in it)) c.requires.2
+store_time-requires c =
+    let timed : let a = c.args in Payload (command_made a.command (array []) a.lent.now) (ink (time_fields c.in-TimeSignal.t)) = let a = c.args in command_time_payload a.command (array []) a.lent.now c.in-TimeSignal.t c.in-TimeSignal.is c.requires.1 in
+    store_room c.args.out.now c.args.at _ _ timed.requires.2
 
 pub store_private-requires : goal.store_private-requires
-store_private-requires c = store_room c.args.out.now c.args.at _ _ ((let it : let a = c.args in Payload (command_made a.command (array []) a.lent.now) (private_ink c.in-PrivateCommand.p a.lent.now) = let a = c.args in command_private_payload a.command (array []) a.lent.now c.in-PrivateCommand.p c.in-PrivateCommand.is c.requires.1 in it)) c.requires.2
+store_private-requires c =
+    let own : let a = c.args in Payload (command_made a.command (array []) a.lent.now) (private_ink c.in-PrivateCommand.p a.lent.now) = let a = c.args in command_private_payload a.command (array []) a.lent.now c.in-PrivateCommand.p c.in-PrivateCommand.is c.requires.1 in
+    store_room c.args.out.now c.args.at _ _ own.requires.2
 
 pub returns-in-SpliceNull : goal.returns-in-SpliceNull
 returns-in-SpliceNull c = let a = c.args in sym (ap (stored a.out.now a.at) (null_bytes a.command (array []) a.lent.now c.in-SpliceNull.is) ∙ stored_nil a.out.now a.at)
 
 pub returns-in-SpliceInsert : goal.returns-in-SpliceInsert
-returns-in-SpliceInsert c = store_all c.args.out.now c.args.at _ _ ((let it : let a = c.args in Payload (command_made a.command (array []) a.lent.now) (ink (insert_fields (counted c.in-SpliceInsert.i (array [])))) = let a = c.args in command_insert_payload a.command (array []) a.lent.now c.in-SpliceInsert.i c.in-SpliceInsert.is blank_length (countable (SpliceCommand.SpliceInsert c.in-SpliceInsert.i) a.command (sym c.in-SpliceInsert.is) c.requires.3) c.requires.1 in it)) c.requires.2 c.requires.0 (print_bits (contents [] (insert_fields (counted c.in-SpliceInsert.i (array []))))) _ _ c.store_insert_without_components.ensures
+returns-in-SpliceInsert c =
+    let inserted : let a = c.args in Payload (command_made a.command (array []) a.lent.now) (ink (insert_fields (counted c.in-SpliceInsert.i (array [])))) = let a = c.args in command_insert_payload a.command (array []) a.lent.now c.in-SpliceInsert.i c.in-SpliceInsert.is blank_length (countable (SpliceCommand.SpliceInsert c.in-SpliceInsert.i) a.command (sym c.in-SpliceInsert.is) c.requires.3) c.requires.1 in
+    store_all c.args.out.now c.args.at _ _ inserted.requires.2 c.requires.0 (print_bits (contents [] (insert_fields (counted c.in-SpliceInsert.i (array []))))) _ _ c.store_insert_without_components.ensures
 
 pub returns-in-TimeSignal : goal.returns-in-TimeSignal
-returns-in-TimeSignal c = store_all c.args.out.now c.args.at _ _ ((let it : let a = c.args in Payload (command_made a.command (array []) a.lent.now) (ink (time_fields c.in-TimeSignal.t)) = let a = c.args in command_time_payload a.command (array []) a.lent.now c.in-TimeSignal.t c.in-TimeSignal.is c.requires.1 in it)) c.requires.2 c.requires.0 (print_bits (contents [] (time_fields c.in-TimeSignal.t))) _ _ c.store_time.ensures
+returns-in-TimeSignal c =
+    let timed : let a = c.args in Payload (command_made a.command (array []) a.lent.now) (ink (time_fields c.in-TimeSignal.t)) = let a = c.args in command_time_payload a.command (array []) a.lent.now c.in-TimeSignal.t c.in-TimeSignal.is c.requires.1 in
+    store_all c.args.out.now c.args.at _ _ timed.requires.2 c.requires.0 (print_bits (contents [] (time_fields c.in-TimeSignal.t))) _ _ c.store_time.ensures
 
 pub returns-in-BandwidthReservation : goal.returns-in-BandwidthReservation
 returns-in-BandwidthReservation c = let a = c.args in sym (ap (stored a.out.now a.at) (bandwidth_bytes a.command (array []) a.lent.now c.in-BandwidthReservation.is) ∙ stored_nil a.out.now a.at)
 
 pub returns-in-PrivateCommand : goal.returns-in-PrivateCommand
-returns-in-PrivateCommand c = store_all c.args.out.now c.args.at _ _ ((let it : let a = c.args in Payload (command_made a.command (array []) a.lent.now) (private_ink c.in-PrivateCommand.p a.lent.now) = let a = c.args in command_private_payload a.command (array []) a.lent.now c.in-PrivateCommand.p c.in-PrivateCommand.is c.requires.1 in it)) c.requires.2 c.requires.0 (private_bits c.in-PrivateCommand.p c.args.lent.now) _ _ c.store_private.ensures
+returns-in-PrivateCommand c =
+    let own : let a = c.args in Payload (command_made a.command (array []) a.lent.now) (private_ink c.in-PrivateCommand.p a.lent.now) = let a = c.args in command_private_payload a.command (array []) a.lent.now c.in-PrivateCommand.p c.in-PrivateCommand.is c.requires.1 in
+    store_all c.args.out.now c.args.at _ _ own.requires.2 c.requires.0 (private_bits c.in-PrivateCommand.p c.args.lent.now) _ _ c.store_private.ensures

@@ -18,13 +18,15 @@ store_by_program-requires c =
 
 pub store_by_none-requires : goal.store_by_none-requires
 store_by_none-requires c =
+    let none : c.args.insert.splice_mode ≡ SpliceMode.Components 0 = c.in-Components.is ∙ ap SpliceMode.Components c.if-n-eq0.true in
     let a = c.args in
-    ((let it : c.args.insert.splice_mode ≡ SpliceMode.Components 0 = c.in-Components.is ∙ ap SpliceMode.Components c.if-n-eq0.true in it), fits_same a.out.now a.c _ _ (none_active a.insert (array []) (ap count ((let it : c.args.insert.splice_mode ≡ SpliceMode.Components 0 = c.in-Components.is ∙ ap SpliceMode.Components c.if-n-eq0.true in it)))) c.requires)
+    (none, fits_same a.out.now a.c _ _ (none_active a.insert (array []) (ap count none)) c.requires)
 
 pub returns-then-n-eq0 : goal.returns-then-n-eq0
 returns-then-n-eq0 c =
+    let none : c.args.insert.splice_mode ≡ SpliceMode.Components 0 = c.in-Components.is ∙ ap SpliceMode.Components c.if-n-eq0.true in
     let a = c.args in
-    pens_same a.out.now a.c _ _ _ _ (ap ink (sym (none_active a.insert (array []) (ap count ((let it : c.args.insert.splice_mode ≡ SpliceMode.Components 0 = c.in-Components.is ∙ ap SpliceMode.Components c.if-n-eq0.true in it)))))) c.store_by_none.ensures
+    pens_same a.out.now a.c _ _ _ _ (ap ink (sym (none_active a.insert (array []) (ap count none)))) c.store_by_none.ensures
 
 pub store_listed-requires : goal.store_listed-requires
 store_listed-requires c =

@@ -13,8 +13,11 @@ returns-then-at_once c =
     component_now a.out.now a.c _ _ a.at_once a.component _ c.if-at_once.true c.wide.ensures.0 c.put_bits-c.ensures
 
 pub store_time-requires : goal.store_time-requires
-store_time-requires c = ((let it : let a = c.args in Goes a.out.now a.c (ink (component_fields a.at_once a.component)) c.put_bits-c.new.0 c.put_bits-c.result (ink (time_fields a.component.splice_time)) = component_timed c.args.out.now c.args.c _ _ c.args.at_once c.args.component _ c.if-at_once.false c.wide.ensures.0 c.requires c.put_bits-c.ensures in it)).room
+store_time-requires c =
+    let next : let a = c.args in Goes a.out.now a.c (ink (component_fields a.at_once a.component)) c.put_bits-c.new.out c.put_bits-c.result (ink (time_fields a.component.splice_time)) = component_timed c.args.out.now c.args.c _ _ c.args.at_once c.args.component _ c.if-at_once.false c.wide.ensures.0 c.requires c.put_bits-c.ensures in
+    next.room
 
 pub returns : goal.returns
 returns c =
-    ((let it : let a = c.args in Goes a.out.now a.c (ink (component_fields a.at_once a.component)) c.put_bits-c.new.0 c.put_bits-c.result (ink (time_fields a.component.splice_time)) = component_timed c.args.out.now c.args.c _ _ c.args.at_once c.args.component _ c.if-at_once.false c.wide.ensures.0 c.requires c.put_bits-c.ensures in it)).both _ _ c.store_time.ensures
+    let next : let a = c.args in Goes a.out.now a.c (ink (component_fields a.at_once a.component)) c.put_bits-c.new.out c.put_bits-c.result (ink (time_fields a.component.splice_time)) = component_timed c.args.out.now c.args.c _ _ c.args.at_once c.args.component _ c.if-at_once.false c.wide.ensures.0 c.requires c.put_bits-c.ensures in
+    next.both _ _ c.store_time.ensures

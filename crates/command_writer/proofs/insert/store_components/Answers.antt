@@ -16,20 +16,6 @@ use Rattle.command_writer.proofs.Storing.{component_more, pens_length, fits_fewe
 use borrow.Author.Rules.{rules}
 use Rattle.command_writer.proofs.insert.store_components.Goals as goal
 
--- the component that is next
-next : (c : goal.In-loop-i) (v : List ℕ) (z : Cursor) →
-    let a = c.args in
-    let x = get_or a.components c.loop-i.i (record { component_tag = 0; splice_time = Immediate }) in
-    Fits c.loop-i.out c.loop-i.next (ink (component_fields a.at_once x))
-    × (Pens c.loop-i.out c.loop-i.next (ink (component_fields a.at_once x)) v z → Pens a.out.now a.c (ink (list_fields a.at_once (take (c.loop-i.i + 1) a.components))) v z)
-next c v z =
-    let a = c.args in
-    let d : InsertComponent = record { component_tag = 0; splice_time = Immediate } in
-    let i = c.loop-i.i in
-    let e : take (i + 1) (take a.count a.components) ≡ take (i + 1) a.components = take-take (i + 1) a.count a.components (omega arith) in
-    let f : Fits a.out.now a.c (ink (list_fields a.at_once (take (i + 1) a.components))) = rw e at (fits_fewer a.out.now a.c a.at_once (take a.count a.components) (i + 1) c.requires.3) in
-    component_more a.out.now a.c c.loop-i.out c.loop-i.next a.at_once a.components i d v z (omega (arith, full c, c.requires.0)) f c.loop-i.invariant.1
-
 pub loop-i-init : goal.loop-i-init
 loop-i-init c =
     (omega arith, pens_nil c.args.out.now c.args.c c.requires.1 c.requires.2 (omega (arith, c.requires.3)))
@@ -41,7 +27,10 @@ pub bounds-components-i : goal.bounds-components-i
 bounds-components-i c = omega (arith, c.requires.0)
 
 pub store_component-next-requires : goal.store_component-next-requires
-store_component-next-requires c = (next c [] c.loop-i.next).0
+store_component-next-requires c =
+    let full : length c.args.components ≡ 255 = search rules in
+    let next : (v : List ℕ) (z : Cursor) → let a = c.args in let x = get_or a.components c.loop-i.i (record { component_tag = 0; splice_time = Immediate }) in Fits c.loop-i.out c.loop-i.next (ink (component_fields a.at_once x)) × (Pens c.loop-i.out c.loop-i.next (ink (component_fields a.at_once x)) v z → Pens a.out.now a.c (ink (list_fields a.at_once (take (c.loop-i.i + 1) a.components))) v z) = λ v z. let a = c.args in let d : InsertComponent = record { component_tag = 0; splice_time = Immediate } in let i = c.loop-i.i in let e : take (i + 1) (take a.count a.components) ≡ take (i + 1) a.components = take-take (i + 1) a.count a.components (omega arith) in let f : Fits a.out.now a.c (ink (list_fields a.at_once (take (i + 1) a.components))) = rw e at (fits_fewer a.out.now a.c a.at_once (take a.count a.components) (i + 1) c.requires.3) in component_more a.out.now a.c c.loop-i.out c.loop-i.next a.at_once a.components i d v z (omega (arith, full, c.requires.0)) f c.loop-i.invariant.1 in
+    (next [] c.loop-i.next).0
 
 pub overflow_add-i : goal.overflow_add-i
 overflow_add-i c = omega arith
@@ -51,7 +40,9 @@ loop-i-smaller c = omega arith
 
 pub loop-i-preserved : goal.loop-i-preserved
 loop-i-preserved c =
-    (omega arith, (next c _ _).1 c.store_component-next.ensures)
+    let full : length c.args.components ≡ 255 = search rules in
+    let next : (v : List ℕ) (z : Cursor) → let a = c.args in let x = get_or a.components c.loop-i.i (record { component_tag = 0; splice_time = Immediate }) in Fits c.loop-i.out c.loop-i.next (ink (component_fields a.at_once x)) × (Pens c.loop-i.out c.loop-i.next (ink (component_fields a.at_once x)) v z → Pens a.out.now a.c (ink (list_fields a.at_once (take (c.loop-i.i + 1) a.components))) v z) = λ v z. let a = c.args in let d : InsertComponent = record { component_tag = 0; splice_time = Immediate } in let i = c.loop-i.i in let e : take (i + 1) (take a.count a.components) ≡ take (i + 1) a.components = take-take (i + 1) a.count a.components (omega arith) in let f : Fits a.out.now a.c (ink (list_fields a.at_once (take (i + 1) a.components))) = rw e at (fits_fewer a.out.now a.c a.at_once (take a.count a.components) (i + 1) c.requires.3) in component_more a.out.now a.c c.loop-i.out c.loop-i.next a.at_once a.components i d v z (omega (arith, full, c.requires.0)) f c.loop-i.invariant.1 in
+    (omega arith, (next _ _).1 c.store_component-next.ensures)
 
 pub shape_of-out : goal.shape_of-out
 shape_of-out c =

@@ -12,7 +12,9 @@ use borrow.Author.Rules.{rules}
 use Rattle.command_writer.proofs.insert.store_insert_without_components.Goals as goal
 
 pub store_active-requires : goal.store_active-requires
-store_active-requires c = ((let it : let a = c.args in let x = c.in-Insert.insert in let more = active_fields x (places_of x (array [])) in Goes a.out.now a.c (ink (bits 32 a.i.splice_event_id ∷ bits 1 0 ∷ bits 7 a.i.reserved ∷ more)) c.put_bits-c.new.0 c.put_bits-c.result (ink more) = let a = c.args in after_event a.out.now a.c _ _ a.i _ (array []) _ c.in-Insert.is c.event_number-event.ensures.0 c.requires c.put_bits-c.ensures in it)).room
+store_active-requires c =
+    let one : let a = c.args in let x = c.in-Insert.insert in let more = active_fields x (places_of x (array [])) in Goes a.out.now a.c (ink (bits 32 a.i.splice_event_id ∷ bits 1 0 ∷ bits 7 a.i.reserved ∷ more)) c.put_bits-c.new.out c.put_bits-c.result (ink more) = let a = c.args in after_event a.out.now a.c _ _ a.i _ (array []) _ c.in-Insert.is c.event_number-event.ensures.0 c.requires c.put_bits-c.ensures in
+    one.room
 
 pub returns-in-Cancel : goal.returns-in-Cancel
 returns-in-Cancel c =
@@ -24,5 +26,6 @@ returns-in-Cancel c =
 
 pub returns-in-Insert : goal.returns-in-Insert
 returns-in-Insert c =
+    let one : let a = c.args in let x = c.in-Insert.insert in let more = active_fields x (places_of x (array [])) in Goes a.out.now a.c (ink (bits 32 a.i.splice_event_id ∷ bits 1 0 ∷ bits 7 a.i.reserved ∷ more)) c.put_bits-c.new.out c.put_bits-c.result (ink more) = let a = c.args in after_event a.out.now a.c _ _ a.i _ (array []) _ c.in-Insert.is c.event_number-event.ensures.0 c.requires c.put_bits-c.ensures in
     let a = c.args in
-    pens_same a.out.now a.c _ _ _ _ (ap ink (sym (active_insert_lem a.i _ (array []) c.in-Insert.is))) (((let it : let a = c.args in let x = c.in-Insert.insert in let more = active_fields x (places_of x (array [])) in Goes a.out.now a.c (ink (bits 32 a.i.splice_event_id ∷ bits 1 0 ∷ bits 7 a.i.reserved ∷ more)) c.put_bits-c.new.0 c.put_bits-c.result (ink more) = let a = c.args in after_event a.out.now a.c _ _ a.i _ (array []) _ c.in-Insert.is c.event_number-event.ensures.0 c.requires c.put_bits-c.ensures in it)).both _ _ c.store_active.ensures)
+    pens_same a.out.now a.c _ _ _ _ (ap ink (sym (active_insert_lem a.i _ (array []) c.in-Insert.is))) (one.both _ _ c.store_active.ensures)
