@@ -1,5 +1,6 @@
-// The C boundary: include/scte35.h declares these functions. Each takes bytes and an offset, reads what stands from there to the end (nothing where the
-// offset lies past it), and answers a struct of 64-bit words. Views count from the offset; those of a loop's items, from the loop's first byte.
+// The C boundary: include/scte35.h declares these functions, and the crate scte35_c exports them. Each takes bytes and an offset, reads what stands from there
+// to the end (nothing where the offset lies past it), and answers a struct of 64-bit words. Views count from the offset; those of a loop's items, from the
+// loop's first byte.
 #![tactic(auto)]
 
 ghost use Rattle.std.specs.Prelude.{◌≡◌, drop};
