@@ -3,7 +3,7 @@ use Prim.Native.Nat.{ℕ}
 use mathlib.Core.List.{List, [], ◌∷◌}
 use mathlib.Core.Path.{refl}
 use contract.Lifetimes.{Lfts}
-use denote.Ref.{Bor}
+use denote.MutBor.{MutBor}
 use Rattle.board.specs.Board.{empty_board}
 use Rattle.board.specs.Calls as one
 use Rattle.board.specs.Runs.{Call, step_of}
@@ -56,8 +56,8 @@ a_shared_board_is_emptied κ = refl
 
 -- ---- over C
 
-abbrev slice : List ℕ → Bor (List ℕ)
-slice s = record { ref_ptr = (0, 0); now = s }
+abbrev slice : List ℕ → MutBor (List ℕ)
+slice s = record { ref_ptr = (0, 0); ghost_name = 0; now = s }
 
 pub lent_words_are_emptied : (words : List ℕ) → over_c.Empties words (emptied words).answer (emptied words).words
 lent_words_are_emptied words = record { κ = ([], tt); arguments = (slice words, tt); answer = (emptied words).answer; after = (slice (emptied words).words, tt); taken = refl; left = refl; learnt_so = (refl, refl) }

@@ -190,7 +190,7 @@ big_endian_answers = record { takes_any = λ κ a. tt; is = λ κ a r e l. l }
 pub time33_answers : Answers time33.Asked time33.Learnt (λ κ r e. r) (λ κ a. field (bits_of a.0.now) (a.1.0 * 8 + 7) 33)
 time33_answers = record { takes_any = λ κ a. tt; is = λ κ a r e l. l }
 
-pub lies_in_answers : Answers lies_in.Asked lies_in.Learnt (λ κ r e. r) (λ κ a. lies_in a.0.now a.1.0)
+pub lies_in_answers : Answers lies_in_lem.Asked lies_in_lem.Learnt (λ κ r e. r) (λ κ a. lies_in a.0.now a.1.0)
 lies_in_answers = record { takes_any = λ κ a. tt; is = λ κ a r e l. l }
 
 pub view_answers : Answers view.Asked view.Learnt (λ κ r e. r.now) (λ κ a. viewed a.0.now a.1.0)
