@@ -29,7 +29,7 @@ use Rattle.names.specs.Upid.{upid_type_entry, upid_type_of}
 use Rattle.scte35.specs.FlatNumber.{flat_name, flat_answer}
 use Rattle.section_writer.specs.Writing.{type_of, section_made}
 use Rattle.table.specs.Writing.{Made}
-use Rattle.theorems_functions.proofs.Premises.{slice}
+use Rattle.theorems_functions.proofs.Premises.{slice, target_of}
 use Rattle.upid.specs.Upid.{check_of}
 use Rattle.theorems_answers.proofs.Contracts.{ReadsHeader, ReadsCommand, ReadsComponents, CountsItems, ReadsDescriptor, ReadsFullDescriptor, ChecksUpid, GivesCrc, TellsCommand, TellsDescriptor, TellsLoop, WritesCommandAlone, WritesDescriptorAlone, WritesSectionAlone, ReadsHeaderC, ReadsCommandC, TellsDescriptorC, TellsLoopC, GivesCrcC, WritesCommandC, ClassifiesAlgorithm, ClassifiesCommandType, ClassifiesUpidType, ClassifiesSegmentationType, ClassifiesNetworkIndicator, ClassifiesReturnMode, ClassifiesRestrictions}
 
@@ -76,9 +76,9 @@ write_command_without_components_is_met c lent target =
     let m : Made = command_made c (array []) lent in
     record {
       κ = ([], ([], tt));
-      arguments = (c, (slice lent, (slice target, tt)));
+      arguments = (c, (slice lent, (target_of target, tt)));
       answer = answer_of m target;
-      after = (c, (slice lent, (slice (later_of m target), tt)));
+      after = (c, (slice lent, (target_of (later_of m target), tt)));
       taken = refl;
       left = refl;
       learnt_so = (refl, refl);
@@ -90,9 +90,9 @@ write_descriptor_without_components_is_met x identifier eidr lent target =
     let m : Made = descriptor_made x identifier (record { components = filled []; eidr = eidr }) lent in
     record {
       κ = ([], ([], tt));
-      arguments = (x, (identifier, (eidr, (slice lent, (slice target, tt)))));
+      arguments = (x, (identifier, (eidr, (slice lent, (target_of target, tt)))));
       answer = answer_of m target;
-      after = (x, (identifier, (eidr, (slice lent, (slice (later_of m target), tt)))));
+      after = (x, (identifier, (eidr, (slice lent, (target_of (later_of m target), tt)))));
       taken = refl;
       left = refl;
       learnt_so = record { answer = refl; target_later = refl };
@@ -104,9 +104,9 @@ write_section_without_components_is_met h c lent loop target =
     let m : Made = section_made h (command_made c (array []) lent) (type_of c) loop in
     record {
       κ = ([], ([], ([], tt)));
-      arguments = (h, (c, (slice lent, (slice loop, (slice target, tt)))));
+      arguments = (h, (c, (slice lent, (slice loop, (target_of target, tt)))));
       answer = answer_of m target;
-      after = (h, (c, (slice lent, (slice loop, (slice (later_of m target), tt)))));
+      after = (h, (c, (slice lent, (slice loop, (target_of (later_of m target), tt)))));
       taken = refl;
       left = refl;
       learnt_so = (refl, refl);
@@ -135,9 +135,9 @@ scte35_write_command_words_is_met words components lent target =
     let m : Made = command_words_made words components lent in
     record {
       κ = ([], ([], ([], ([], tt))));
-      arguments = (slice words, (slice components, (slice lent, (slice target, tt))));
+      arguments = (slice words, (slice components, (slice lent, (target_of target, tt))));
       answer = flat_written (answer_of m target);
-      after = (slice words, (slice components, (slice lent, (slice (later_of m target), tt))));
+      after = (slice words, (slice components, (slice lent, (target_of (later_of m target), tt))));
       taken = refl;
       left = refl;
       learnt_so = (refl, refl);

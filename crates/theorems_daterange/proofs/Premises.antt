@@ -3,6 +3,7 @@ use Prim.Native.Nat.{ℕ}
 use mathlib.Core.List.{List, []}
 use mathlib.Core.Path.{◌≡◌, refl}
 use denote.Ref.{Bor}
+use denote.MutBor.{MutBor}
 use Rattle.bit_stores.specs.Written.{answer_of, later_of}
 use Rattle.c_command_writer.specs.Words.{flat_written}
 use Rattle.c_daterange.specs.FlatDaterange.{flat_daterange}
@@ -17,15 +18,19 @@ use Rattle.theorems_daterange.proofs.Contracts.{WritesLine, WritesDaterange, Wri
 abbrev slice : List ℕ → Bor (List ℕ)
 slice s = record { ref_ptr = (0, 0); now = s }
 
+-- a lent target
+abbrev target_of : List ℕ → MutBor (List ℕ)
+target_of s = record { ref_ptr = (0, 0); ghost_name = 0; now = s }
+
 pub write_line_is_met : (cue : Cue) (q : Cued) (target : List ℕ)
     → WritesLine cue q target (answer_of (line_made q.section cue q.id q.date) target) (later_of (line_made q.section cue q.id q.date) target)
 write_line_is_met cue q target =
     let m : Made = line_made q.section cue q.id q.date in
     record {
       κ = ([], ([], ([], ([], tt))));
-      arguments = (slice q.section, (cue, (slice q.id, (slice q.date, (slice target, tt)))));
+      arguments = (slice q.section, (cue, (slice q.id, (slice q.date, (target_of target, tt)))));
       answer = answer_of m target;
-      after = (slice q.section, (cue, (slice q.id, (slice q.date, (slice (later_of m target), tt)))));
+      after = (slice q.section, (cue, (slice q.id, (slice q.date, (target_of (later_of m target), tt)))));
       taken = refl;
       left = refl;
       learnt_so = (refl, refl);
@@ -37,9 +42,9 @@ write_daterange_is_met q target =
     let m : Made = daterange_made q.section q.id q.date in
     record {
       κ = ([], ([], ([], ([], tt))));
-      arguments = (slice q.section, (slice q.id, (slice q.date, (slice target, tt))));
+      arguments = (slice q.section, (slice q.id, (slice q.date, (target_of target, tt))));
       answer = answer_of m target;
-      after = (slice q.section, (slice q.id, (slice q.date, (slice (later_of m target), tt))));
+      after = (slice q.section, (slice q.id, (slice q.date, (target_of (later_of m target), tt))));
       taken = refl;
       left = refl;
       learnt_so = (refl, refl);
@@ -51,9 +56,9 @@ scte35_write_daterange_is_met q target =
     let m : Made = daterange_made q.section q.id q.date in
     record {
       κ = ([], ([], ([], ([], tt))));
-      arguments = (slice q.section, (0, (slice q.id, (slice q.date, (slice target, tt)))));
+      arguments = (slice q.section, (0, (slice q.id, (slice q.date, (target_of target, tt)))));
       answer = flat_written (answer_of m target);
-      after = (slice q.section, (0, (slice q.id, (slice q.date, (slice (later_of m target), tt)))));
+      after = (slice q.section, (0, (slice q.id, (slice q.date, (target_of (later_of m target), tt)))));
       taken = refl;
       left = refl;
       learnt_so = (refl, refl);
@@ -62,9 +67,9 @@ scte35_write_daterange_is_met q target =
 pub read_line_is_met : (line target : List ℕ) → ReadsLine line target (read_of line target) (read_later line target)
 read_line_is_met line target = record {
   κ = ([], ([], tt));
-  arguments = (slice line, (slice target, tt));
+  arguments = (slice line, (target_of target, tt));
   answer = read_of line target;
-  after = (slice line, (slice (read_later line target), tt));
+  after = (slice line, (target_of (read_later line target), tt));
   taken = refl;
   left = refl;
   learnt_so = (refl, refl);
@@ -73,9 +78,9 @@ read_line_is_met line target = record {
 pub scte35_read_daterange_is_met : (line target : List ℕ) → ReadsDaterangeC line target (flat_daterange (read_of line target)) (read_later line target)
 scte35_read_daterange_is_met line target = record {
   κ = ([], ([], tt));
-  arguments = (slice line, (0, (slice target, tt)));
+  arguments = (slice line, (0, (target_of target, tt)));
   answer = flat_daterange (read_of line target);
-  after = (slice line, (0, (slice (read_later line target), tt)));
+  after = (slice line, (0, (target_of (read_later line target), tt)));
   taken = refl;
   left = refl;
   learnt_so = (refl, refl);

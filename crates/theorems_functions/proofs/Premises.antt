@@ -6,6 +6,7 @@ use mathlib.Core.Path.{◌≡◌, refl, ap, sym, subst, ◌∙◌}
 use native.Mathlib.Omega.{arith}
 use lib.ListN.{length, take}
 use denote.Ref.{Bor}
+use denote.MutBor.{MutBor}
 use Rattle.bit_stores.specs.Written.{answer_of, later_of}
 use Rattle.bit_stores.specs.declared.Written.{Written}
 use Rattle.c_command_writer.specs.Words.{flat_written}
@@ -56,6 +57,10 @@ use Rattle.theorems_functions.proofs.Writes as writes
 abbrev pub slice : List ℕ → Bor (List ℕ)
 slice s = record { ref_ptr = (0, 0); now = s }
 
+-- a lent target
+abbrev pub target_of : List ℕ → MutBor (List ℕ)
+target_of s = record { ref_ptr = (0, 0); ghost_name = 0; now = s }
+
 -- ---- the readers
 
 pub read_section_is_met : (s : List ℕ) → ReadsSection s (section_of s)
@@ -93,9 +98,9 @@ is_canonical_section_is_met s = record { κ = ([], tt); arguments = (slice s, tt
 pub write_section_is_met : (g : SectionGiven) (target : List ℕ) → WritesSection g target (answer_of (section_from g) target) (later_of (section_from g) target)
 write_section_is_met g target = record {
   κ = ([], ([], ([], tt)));
-  arguments = (g.header, (g.command, (g.components, (slice g.lent, (slice g.loop, (slice target, tt))))));
+  arguments = (g.header, (g.command, (g.components, (slice g.lent, (slice g.loop, (target_of target, tt))))));
   answer = answer_of (section_from g) target;
-  after = (g.header, (g.command, (g.components, (slice g.lent, (slice g.loop, (slice (later_of (section_from g) target), tt))))));
+  after = (g.header, (g.command, (g.components, (slice g.lent, (slice g.loop, (target_of (later_of (section_from g) target), tt))))));
   taken = refl;
   left = refl;
   learnt_so = (refl, refl);
@@ -104,9 +109,9 @@ write_section_is_met g target = record {
 pub write_descriptor_is_met : (g : Given) (target : List ℕ) → WritesDescriptor g target (answer_of (given_made g) target) (later_of (given_made g) target)
 write_descriptor_is_met g target = record {
   κ = ([], ([], tt));
-  arguments = (g.descriptor, (g.identifier, (g.beside, (slice g.lent, (slice target, tt)))));
+  arguments = (g.descriptor, (g.identifier, (g.beside, (slice g.lent, (target_of target, tt)))));
   answer = answer_of (given_made g) target;
-  after = (g.descriptor, (g.identifier, (g.beside, (slice g.lent, (slice (later_of (given_made g) target), tt)))));
+  after = (g.descriptor, (g.identifier, (g.beside, (slice g.lent, (target_of (later_of (given_made g) target), tt)))));
   taken = refl;
   left = refl;
   learnt_so = record { answer = refl; target_later = refl };
@@ -116,9 +121,9 @@ pub write_command_is_met : (c : SpliceCommand) (places : List InsertComponent) (
     → WritesCommand c places lent target (answer_of (command_made c places lent) target) (later_of (command_made c places lent) target)
 write_command_is_met c places lent target = record {
   κ = ([], ([], tt));
-  arguments = (c, (places, (slice lent, (slice target, tt))));
+  arguments = (c, (places, (slice lent, (target_of target, tt))));
   answer = answer_of (command_made c places lent) target;
-  after = (c, (places, (slice lent, (slice (later_of (command_made c places lent) target), tt))));
+  after = (c, (places, (slice lent, (target_of (later_of (command_made c places lent) target), tt))));
   taken = refl;
   left = refl;
   learnt_so = (refl, refl);
@@ -150,9 +155,9 @@ scte35_write_section_words_is_met header command components lent loop target =
     let m : Made = section_words_made header command components lent loop in
     record {
       κ = ([], ([], ([], ([], ([], ([], tt))))));
-      arguments = (slice header, (slice command, (slice components, (slice lent, (slice loop, (slice target, tt))))));
+      arguments = (slice header, (slice command, (slice components, (slice lent, (slice loop, (target_of target, tt))))));
       answer = flat_written (answer_of m target);
-      after = (slice header, (slice command, (slice components, (slice lent, (slice loop, (slice (later_of m target), tt))))));
+      after = (slice header, (slice command, (slice components, (slice lent, (slice loop, (target_of (later_of m target), tt))))));
       taken = refl;
       left = refl;
       learnt_so = (refl, refl);
@@ -164,9 +169,9 @@ scte35_write_descriptor_words_is_met step beside lent target =
     let m : Made = descriptor_words_made step beside lent in
     record {
       κ = ([], ([], ([], ([], tt))));
-      arguments = (slice step, (slice beside, (slice lent, (slice target, tt))));
+      arguments = (slice step, (slice beside, (slice lent, (target_of target, tt))));
       answer = flat_written (answer_of m target);
-      after = (slice step, (slice beside, (slice lent, (slice (later_of m target), tt))));
+      after = (slice step, (slice beside, (slice lent, (target_of (later_of m target), tt))));
       taken = refl;
       left = refl;
       learnt_so = (refl, refl);

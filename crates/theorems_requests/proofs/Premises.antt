@@ -3,6 +3,7 @@ use Prim.Native.Nat.{ℕ}
 use mathlib.Core.List.{List, []}
 use mathlib.Core.Path.{refl}
 use denote.Ref.{Bor}
+use denote.MutBor.{MutBor}
 use Rattle.adjust.specs.Adjust.{adjust_of, chain_of, undo_of}
 use Rattle.adjust_section.specs.Adjusted.{adjusted_section}
 use Rattle.bit_stores.specs.Written.{answer_of, later_of}
@@ -21,6 +22,10 @@ use Rattle.theorems_requests.proofs.Contracts.{Adjusts, AdjustsUnder, Chains, Un
 -- lent bytes or words, wherever they lie
 abbrev slice : List ℕ → Bor (List ℕ)
 slice s = record { ref_ptr = (0, 0); now = s }
+
+-- a lent target
+abbrev target_of : List ℕ → MutBor (List ℕ)
+target_of s = record { ref_ptr = (0, 0); ghost_name = 0; now = s }
 
 -- ---- times and adjustments
 
@@ -69,9 +74,9 @@ scte35_undo_adjustment_is_met a = record { κ = tt; arguments = (a, tt); answer 
 pub adjust_section_is_met : (s : List ℕ) (a : ℕ) (target : List ℕ) → AdjustsSection s a target (answer_of (adjusted_section s a) target) (later_of (adjusted_section s a) target)
 adjust_section_is_met s a target = record {
   κ = ([], ([], tt));
-  arguments = (slice s, (a, (slice target, tt)));
+  arguments = (slice s, (a, (target_of target, tt)));
   answer = answer_of (adjusted_section s a) target;
-  after = (slice s, (a, (slice (later_of (adjusted_section s a) target), tt)));
+  after = (slice s, (a, (target_of (later_of (adjusted_section s a) target), tt)));
   taken = refl;
   left = refl;
   learnt_so = (refl, refl);
@@ -82,9 +87,9 @@ pub scte35_adjust_section_is_met : (s : List ℕ) (a : ℕ) (target : List ℕ)
     → AdjustsSectionC s a target (flat_written (answer_of (adjusted_section s a) target)) (later_of (adjusted_section s a) target)
 scte35_adjust_section_is_met s a target = record {
   κ = ([], ([], tt));
-  arguments = (slice s, (0, (a, (slice target, tt))));
+  arguments = (slice s, (0, (a, (target_of target, tt))));
   answer = flat_written (answer_of (adjusted_section s a) target);
-  after = (slice s, (0, (a, (slice (later_of (adjusted_section s a) target), tt))));
+  after = (slice s, (0, (a, (target_of (later_of (adjusted_section s a) target), tt))));
   taken = refl;
   left = refl;
   learnt_so = (refl, refl);
@@ -101,9 +106,9 @@ fresh_is_met pid = record { κ = tt; arguments = (pid, tt); answer = fresh_assem
 pub feed_is_met : (a : Assembler) (p b : List ℕ) → Feeds a p b (fed_of a p b).answer (fed_of a p b).buffer
 feed_is_met a p b = record {
   κ = ([], ([], tt));
-  arguments = (a, (slice p, (slice b, tt)));
+  arguments = (a, (slice p, (target_of b, tt)));
   answer = (fed_of a p b).answer;
-  after = (a, (slice p, (slice (fed_of a p b).buffer, tt)));
+  after = (a, (slice p, (target_of (fed_of a p b).buffer, tt)));
   taken = refl;
   left = refl;
   learnt_so = refl;
@@ -112,9 +117,9 @@ feed_is_met a p b = record {
 pub take_is_met : (a : Assembler) (p b : List ℕ) → Takes a p b (taken_of a p b).answer (taken_of a p b).buffer
 take_is_met a p b = record {
   κ = ([], ([], tt));
-  arguments = (a, (slice p, (slice b, tt)));
+  arguments = (a, (slice p, (target_of b, tt)));
   answer = (taken_of a p b).answer;
-  after = (a, (slice p, (slice (taken_of a p b).buffer, tt)));
+  after = (a, (slice p, (target_of (taken_of a p b).buffer, tt)));
   taken = refl;
   left = refl;
   learnt_so = refl;
@@ -123,9 +128,9 @@ take_is_met a p b = record {
 pub scte35_packet_start_is_met : (pid : ℕ) (words : List ℕ) → StartsC pid words (kept_in words (fresh_assembler pid))
 scte35_packet_start_is_met pid words = record {
   κ = ([], tt);
-  arguments = (pid, (slice words, tt));
+  arguments = (pid, (target_of words, tt));
   answer = tt;
-  after = (pid, (slice (kept_in words (fresh_assembler pid)), tt));
+  after = (pid, (target_of (kept_in words (fresh_assembler pid)), tt));
   taken = refl;
   left = refl;
   learnt_so = refl;
@@ -135,9 +140,9 @@ pub scte35_packet_feed_is_met : (words p b : List ℕ)
     → FeedsC words p b (fed_number (fed_of (state_in words) p b).answer) (kept_fed words (fed_of (state_in words) p b).answer) (fed_of (state_in words) p b).buffer
 scte35_packet_feed_is_met words p b = record {
   κ = ([], ([], ([], tt)));
-  arguments = (slice words, (slice p, (slice b, tt)));
+  arguments = (target_of words, (slice p, (target_of b, tt)));
   answer = fed_number (fed_of (state_in words) p b).answer;
-  after = (slice (kept_fed words (fed_of (state_in words) p b).answer), (slice p, (slice (fed_of (state_in words) p b).buffer, tt)));
+  after = (target_of (kept_fed words (fed_of (state_in words) p b).answer), (slice p, (target_of (fed_of (state_in words) p b).buffer, tt)));
   taken = refl;
   left = refl;
   learnt_so = (refl, (refl, refl));
@@ -147,9 +152,9 @@ pub scte35_packet_take_is_met : (words p b : List ℕ)
     → TakesC words p b (taken_number (taken_of (state_in words) p b).answer) (kept_taken words (taken_of (state_in words) p b).answer) (taken_of (state_in words) p b).buffer
 scte35_packet_take_is_met words p b = record {
   κ = ([], ([], ([], tt)));
-  arguments = (slice words, (slice p, (slice b, tt)));
+  arguments = (target_of words, (slice p, (target_of b, tt)));
   answer = taken_number (taken_of (state_in words) p b).answer;
-  after = (slice (kept_taken words (taken_of (state_in words) p b).answer), (slice p, (slice (taken_of (state_in words) p b).buffer, tt)));
+  after = (target_of (kept_taken words (taken_of (state_in words) p b).answer), (slice p, (target_of (taken_of (state_in words) p b).buffer, tt)));
   taken = refl;
   left = refl;
   learnt_so = (refl, (refl, refl));
