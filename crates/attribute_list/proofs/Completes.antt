@@ -1,7 +1,7 @@
 -- One attribute at the start of a text.
---     cut-sound      what is cut off is an attribute by the grammar, its text stands there, and nothing or a comma behind it
---     cut-exact      an attribute's text with nothing or a comma behind it is cut off whole
---     cut-within     a cut lies in the text
+--     cut_sound      what is cut off is an attribute by the grammar, its text stands there, and nothing or a comma behind it
+--     cut_exact      an attribute's text with nothing or a comma behind it is cut off whole
+--     cut_within     a cut lies in the text
 use Prim.Native.Nat.{ℕ, ◌+◌, ◌≤◌, ◌<◌}
 use mathlib.Core.Bool.{Bool, true, false, not, ◌&&◌}
 use mathlib.Core.List.{List, [], ◌∷◌, ◌++◌, append_assoc}

@@ -1,6 +1,6 @@
 -- The list of attributes of a text.
---     attributes-sound     what the cutting finds is a list by the grammar, with that text
---     attributes-exact     a list by the grammar is found from its text
+--     attributes_sound     what the cutting finds is a list by the grammar, with that text
+--     attributes_exact     a list by the grammar is found from its text
 use Prim.Native.Nat.{ℕ, zero, suc, ◌+◌, ◌≤◌, ◌<◌}
 use mathlib.Core.Bool.{Bool, true, false}
 use mathlib.Core.List.{List, [], ◌∷◌, ◌++◌}

@@ -1,5 +1,5 @@
 -- Bytes in the grammar's sets, test by test; runs of them; equal names.
---     span-stop, span_more, span-end     a run ends at a byte of another kind, grows by one of its own, and ends where the bytes do
+--     span_stop, span_more, span_end     a run ends at a byte of another kind, grows by one of its own, and ends where the bytes do
 --     same-..                            two runs of bytes, byte by byte
 use Prim.Native.Nat.{ℕ, suc, ◌+◌, ◌≤◌, ◌<◌}
 use mathlib.Core.Bool.{Bool, true, false, not, ◌&&◌, and-false, or-false}

@@ -1,8 +1,8 @@
 -- Bits stored into a target.
---     penned-fits, penned-none, length-penned     what is stored where there is room, and where there is none; the target keeps its length
---     penned-append                               bits stored behind others: storing both at once
---     penned-byte, penned-stored, penned-aligned    bits of one byte; whole bytes; whole bytes from the target's first on
---     bits-number                                 the bits of a number's bytes
+--     penned_fits, penned_none, length_penned     what is stored where there is room, and where there is none; the target keeps its length
+--     penned_append                               bits stored behind others: storing both at once
+--     penned_byte, penned_stored, penned_aligned    bits of one byte; whole bytes; whole bytes from the target's first on
+--     bits_number                                 the bits of a number's bytes
 use Prim.Native.Nat.{ℕ, zero, suc, ◌+◌, ◌*◌, ◌-◌, ◌/◌, ◌%◌, ◌^◌, ◌<◌, ◌≤◌}
 use mathlib.Core.Bool.{Bool, true, false}
 use mathlib.Core.List.{List, [], ◌∷◌, ◌++◌, append_assoc}

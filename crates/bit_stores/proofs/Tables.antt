@@ -1,6 +1,6 @@
 -- Stores one behind the other, as a table's fields stand.
---     pens-append, pens-last, pens-nil, ..       a store, and what is stored behind it
---     print-beside                               two numbers side by side: one number
+--     pens_append, pens_last, pens_nil, ..       a store, and what is stored behind it
+--     print_beside                               two numbers side by side: one number
 --     fields-..                                 what a value has in a table that begins with a number, a flag, ..
 --     goes-..                                   so that field stored, and then the rest of the table, is the table stored
 use Prim.Native.Nat.{ℕ, ◌+◌, ◌*◌, ◌-◌, ◌/◌, ◌%◌, ◌^◌, ◌<◌, ◌≤◌}

@@ -2,7 +2,7 @@
 --     stands-..    the field is there as the canonical form asks, and so is what follows it
 --     fails-..     what follows it is not
 --     lacks-..     the field is missing
---     by-table, not-by-table     what a walk from the first bit on says of the whole payload
+--     by_table, not_by_table     what a walk from the first bit on says of the whole payload
 use Prim.Native.Nat.{ℕ, suc, ◌+◌, ◌*◌, ◌-◌, ◌^◌, ◌<◌, ◌≤◌}
 use mathlib.Core.Bool.{Bool, true, false, ◌&&◌, and-true, and-false}
 use mathlib.Core.List.{List}

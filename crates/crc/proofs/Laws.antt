@@ -1,9 +1,9 @@
 -- The laws of the CRC that callers cite.
---     crc-lt          the CRC fits 32 bits
---     crc-appended    a message with its CRC's four bytes behind it has the CRC 0
---     crc-unique      no other four bytes behind it have
---     crc-last        so a list of bytes with the CRC 0 ends with the four bytes of the CRC of what stands before them
---     crc-bytes       the four are bytes
+--     crc_lt          the CRC fits 32 bits
+--     crc_appended    a message with its CRC's four bytes behind it has the CRC 0
+--     crc_unique      no other four bytes behind it have
+--     crc_last        so a list of bytes with the CRC 0 ends with the four bytes of the CRC of what stands before them
+--     crc_bytes       the four are bytes
 use mathlib.Core.Path.{◌≡◌, refl, sym, ap, ◌∙◌}
 use mathlib.Core.List.{List, [], ◌∷◌, ◌++◌}
 use Prim.Native.Nat.{ℕ, zero, suc, ◌+◌, ◌*◌, ◌/◌, ◌%◌, ◌^◌, ◌<◌}

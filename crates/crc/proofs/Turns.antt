@@ -1,9 +1,9 @@
 -- The register's steps and the order of its bytes as linear maps: what the fast form and the laws rest on.
---     turn-lin, turns-lin, reversed-lin   they are linear
---     turns-add, turns-swap               steps after steps
---     turn-lt, turns-lt, turned_lt        they stay below 2 ^ 32
---     turns-low, behind                   zeros, and other bits, behind the bits that come in
---     reversed-twice                      the other order of the other order
+--     turn_lin, turns_lin, reversed_lin   they are linear
+--     turns_add, turns_swap               steps after steps
+--     turn_lt, turns_lt, turned_lt        they stay below 2 ^ 32
+--     turns_low, behind                   zeros, and other bits, behind the bits that come in
+--     reversed_twice                      the other order of the other order
 use mathlib.Core.Path.{◌≡◌, refl, sym, ap, ap₂, ◌∙◌}
 use Prim.Native.Nat.{ℕ, zero, suc, ◌+◌, ◌*◌, ◌/◌, ◌%◌, ◌^◌, ◌<◌, ◌≤◌}
 use native.Mathlib.Nat.{zero-add, add_comm, mul_comm, mul_assoc, mul-one, pow-suc, suc-add, mod-lt, div-eq_of_lt, mod-eq_of_lt, le-mul_of_pos_right}

@@ -1,5 +1,5 @@
 -- What is written for a section reads back, by the write's own answer.
---     accepted-write-reads-back    the same section, ID and date, and the name that the command chose, for every accepted write
+--     accepted_write_reads_back    the same section, ID and date, and the name that the command chose, for every accepted write
 use Prim.Native.Nat.{ℕ, ◌≤◌, ◌<◌}
 use mathlib.Core.Bool.{Bool, true, false, ◌&&◌}
 use mathlib.Core.List.{List, ◌++◌}

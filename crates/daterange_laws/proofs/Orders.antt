@@ -1,7 +1,7 @@
 -- The order of attributes, and unknown ones between, do not change what a line says.
 --     any_order         attributes in another order (of several cues, in their order) say the same
---     lines-in-any-order, lines-with-unknown    the same of lines
---     unknown-passed    an attribute of a name of its own that is none of the five changes nothing, wherever it stands
+--     lines_in_any_order, lines_with_unknown    the same of lines
+--     unknown_passed    an attribute of a name of its own that is none of the five changes nothing, wherever it stands
 use Prim.Native.Nat.{ℕ}
 use mathlib.Core.Bool.{Bool, true, false, not, ◌&&◌, ◌||◌, and-false}
 use mathlib.Core.List.{List, [], ◌∷◌, ◌++◌}

@@ -1,12 +1,12 @@
 -- What is proved of lines, over the definitions alone.
 --     one_list               the list of attributes of a line is unique
---     cut-exactly            the cutting finds it exactly where there is one
---     refused-52             a line is refused with 52 exactly where it has no list, or its list has one of the stated faults
---     judged-by              what a line with a list is judged by: 52, 51, fine
---     views-are-values       ID and START-DATE of a reading are views of the line, of the values in its list
---     written-line           a written line is by the grammar, with the three attributes
---     written-reads-back     what it reads back to: the same section, ID and date, and the name used
---     written-then-read      the same of the reader's answer and the target's later bytes
+--     cut_exactly            the cutting finds it exactly where there is one
+--     refused_52             a line is refused with 52 exactly where it has no list, or its list has one of the stated faults
+--     judged_by              what a line with a list is judged by: 52, 51, fine
+--     views_are_values       ID and START-DATE of a reading are views of the line, of the values in its list
+--     written_line           a written line is by the grammar, with the three attributes
+--     written_reads_back     what it reads back to: the same section, ID and date, and the name used
+--     written_then_read      the same of the reader's answer and the target's later bytes
 use Prim.Native.Nat.{ℕ, suc, ◌+◌, ◌*◌, ◌/◌, ◌%◌, ◌≤◌, ◌<◌}
 use mathlib.Core.Bool.{Bool, true, false, not, ◌&&◌, ◌||◌}
 use mathlib.Core.List.{List, [], ◌∷◌, ◌++◌}

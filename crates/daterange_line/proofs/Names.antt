@@ -1,6 +1,6 @@
 -- Names among the attributes of a line.
---     earlier-is       the search before a place answers whether one of the attributes before it has the name
---     repeats-after    a name that stands before it already, attribute by attribute, is a repeated name of the list
+--     earlier_is       the search before a place answers whether one of the attributes before it has the name
+--     repeats_after    a name that stands before it already, attribute by attribute, is a repeated name of the list
 use Prim.Native.Nat.{ℕ, zero, suc, ◌+◌, ◌≤◌, ◌<◌}
 use mathlib.Core.Bool.{Bool, true, false, ◌||◌, or-false}
 use mathlib.Core.List.{List, [], ◌∷◌, ◌++◌, append_assoc}

@@ -1,7 +1,7 @@
 -- The values of a line's attributes, where they stand in the line, and what a fine line has.
---     view-value      a view found in a line is of the value found in its list
---     judged-fine     what is so of the attributes of a line that is not refused
---     signal-hex      the first cue of a line that is not refused is hexadecimal
+--     view_value      a view found in a line is of the value found in its list
+--     judged_fine     what is so of the attributes of a line that is not refused
+--     signal_hex      the first cue of a line that is not refused is hexadecimal
 use Prim.Native.Nat.{ℕ, ◌+◌, ◌-◌, ◌%◌, ◌≤◌, ◌<◌}
 use mathlib.Core.Bool.{Bool, true, false, not, ◌&&◌, ◌||◌}
 use mathlib.Core.List.{List, [], ◌∷◌, ◌++◌, append_assoc}

@@ -1,5 +1,5 @@
 -- Where the head of a segmentation descriptor's UPID is written: by whole bytes, behind the fields before it.
---     front-told       its type, its length and its bytes
+--     front_told       its type, its length and its bytes
 use Prim.Native.Nat.{ℕ, zero, suc, ◌+◌, ◌*◌, ◌/◌, ◌%◌, ◌^◌, ◌≤◌, ◌<◌}
 use mathlib.Core.Bool.{Bool, true, false}
 use mathlib.Core.List.{List, []}

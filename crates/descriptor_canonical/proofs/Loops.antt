@@ -1,7 +1,7 @@
 -- A loop of canonical descriptors, one after the other.
---     from-any                       any number from the count of the bytes on says the same
---     loop-first                     the first descriptor, and those after it
---     loop-few, loop-over, ..        what the walk answers: what is left says what the whole says
+--     from_any                       any number from the count of the bytes on says the same
+--     loop_first                     the first descriptor, and those after it
+--     loop_few, loop_over, ..        what the walk answers: what is left says what the whole says
 use Prim.Native.Nat.{ℕ, zero, suc, ◌+◌, ◌-◌, ◌<◌, ◌≤◌}
 use mathlib.Core.Bool.{Bool, true, false, not, ◌&&◌}
 use mathlib.Core.List.{List, [], ◌∷◌}

@@ -1,7 +1,7 @@
 -- A table that is read and canonical, field by field: its test is that of the first field, and then that of the rest. s are the bytes, `at` the bit.
---     through-number, through-flag, ..     a field: its bits are there, and then the rest
---     through-ones                         reserved bits are there, and are 1
---     through-in, through-list             an inner table, and a list
+--     through_number, through_flag, ..     a field: its bits are there, and then the rest
+--     through_ones                         reserved bits are there, and are 1
+--     through_in, through_list             an inner table, and a list
 use Prim.Native.Nat.{ℕ, suc, ◌+◌, ◌*◌, ◌-◌, ◌/◌, ◌^◌, ◌≤◌}
 use mathlib.Core.Bool.{Bool, true, false, ◌&&◌}
 use mathlib.Core.List.{List, [], ◌∷◌}

@@ -1,6 +1,6 @@
 -- Laws of an item that is read.
---     is-movable, refused-movable    the views of a payload's reading lie inside it, so no place grows too large
---     avail-is, .., complete-refused    the answer, by what was read
+--     is_movable, refused_movable    the views of a payload's reading lie inside it, so no place grows too large
+--     avail_is, .., complete_refused    the answer, by what was read
 use Prim.Native.Nat.{ℕ, suc, ◌+◌, ◌-◌, ◌≤◌, ◌<◌}
 use mathlib.Core.List.{List, [], ◌∷◌}
 use mathlib.Core.Path.{◌≡◌, ap, sym, ◌∙◌}

@@ -1,7 +1,7 @@
 -- Cuttings of a loop.
---     one-cutting                                         no two lists of such pieces join to the same bytes
---     joined-walk, by-items-walk, follow-walk, once-follow    the items of a loop cover it
---     runs-walk                                           and the views of an item are runs of its bytes
+--     one_cutting                                         no two lists of such pieces join to the same bytes
+--     joined_walk, by_items_walk, follow_walk, once_follow    the items of a loop cover it
+--     runs_walk                                           and the views of an item are runs of its bytes
 use Prim.Native.Nat.{ℕ, suc, ◌+◌, ◌-◌, ◌≤◌, ◌<◌}
 use mathlib.Core.Path.{◌≡◌, refl, sym, ap, subst, ◌∙◌}
 use mathlib.Core.List.{List, [], ◌∷◌, ◌++◌, map, append-nil}

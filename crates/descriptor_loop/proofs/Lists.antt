@@ -1,9 +1,9 @@
 -- Laws of the list of a loop's items.
---     from-any                 any number of steps from the count of the bytes left on gives the same items
+--     from_any                 any number of steps from the count of the bytes left on gives the same items
 --     rest_end, rest_more      the items from an offset on
---     items-rest, items-none   all of them
+--     items_rest, items_none   all of them
 --     walked                   the items, one turn after the other
---     few-items                how many there can be
+--     few_items                how many there can be
 use Prim.Native.Nat.{ℕ, zero, suc, ◌+◌, ◌*◌, ◌-◌, ◌≤◌, ◌<◌}
 use mathlib.Core.Path.{◌≡◌, refl, sym, ap, ◌∙◌}
 use mathlib.Core.List.{List, [], ◌∷◌}

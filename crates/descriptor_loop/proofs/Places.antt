@@ -1,7 +1,7 @@
 -- Laws of views that are moved.
---     all_first, all-into, all_map    what holds of all of a list
---     upid-none .. text-first         the answers of the functions that move
---     item-views                      the views of an item are those of its payload's reading, moved
+--     all_first, all_into, all_map    what holds of all of a list
+--     upid_none .. text_first         the answers of the functions that move
+--     item_views                      the views of an item are those of its payload's reading, moved
 use Prim.Native.Nat.{ℕ, ◌+◌, ◌^◌, ◌<◌}
 use mathlib.Core.Bool.{Bool, true, false, ◌||◌, cond as pick}
 use mathlib.Core.List.{List, [], ◌∷◌, map}

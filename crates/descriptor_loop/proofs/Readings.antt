@@ -1,7 +1,7 @@
 -- Laws of the full reading of an item.
---     payload-there    the payload of a descriptor lies in the loop
---     reading-is       the answer
---     reading-full    it is the whole descriptor that tag, identifier and payload make
+--     payload_there    the payload of a descriptor lies in the loop
+--     reading_is_lem       the answer
+--     reading_full    it is the whole descriptor that tag, identifier and payload make
 use Prim.Native.Nat.{ℕ, ◌+◌, ◌-◌, ◌≤◌}
 use mathlib.Core.Path.{◌≡◌, refl, sym, subst}
 use mathlib.Core.List.{List}

@@ -1,5 +1,5 @@
 -- Laws of one step.
---     step-long .. step-complete    the definition, clause by clause
+--     step_long .. step_complete    the definition, clause by clause
 --     clause                     each step is by one of the clauses
 --     turn                       a step inside a loop ends it by an ending rule, or goes past an item that stands there whole
 use Prim.Native.Nat.{ℕ, ◌+◌, ◌-◌, ◌≤◌, ◌<◌}

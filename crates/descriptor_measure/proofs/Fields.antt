@@ -1,6 +1,6 @@
 -- The fields that a segmentation descriptor's table has of what is written, part by part.
---     fields-are     they are those of specs/Parts.antt
---     active-fields  the same of an active segmentation with any UPID, cut at the UPID
+--     fields_are     they are those of specs/Parts.antt
+--     active_fields  the same of an active segmentation with any UPID, cut at the UPID
 use Prim.Native.Nat.{ℕ, zero, suc, ◌+◌, ◌*◌, ◌/◌, ◌^◌, ◌-◌}
 use mathlib.Core.Bool.{Bool, true, false}
 use mathlib.Core.List.{List, [], ◌∷◌, ◌++◌, append_assoc}

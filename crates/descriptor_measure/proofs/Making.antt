@@ -1,7 +1,7 @@
 -- What is made of a segmentation descriptor: its bytes, by the table.
---     made-zero     no refusal: the bytes of its fields
---     by-table      what is made is what the table's structure makes, so that its laws hold
---     made-size     as many bytes as `payload_size` says; made_bits: and as many bits
+--     made_zero     no refusal: the bytes of its fields
+--     by_table      what is made is what the table's structure makes, so that its laws hold
+--     made_size     as many bytes as `payload_size` says; made_bits: and as many bits
 use Prim.Native.Nat.{ℕ, ◌+◌, ◌*◌, ◌<◌, ◌≤◌}
 use mathlib.Core.Bool.{Bool, true, false, ◌&&◌}
 use mathlib.Core.List.{List, [], ◌∷◌}

@@ -1,8 +1,8 @@
 -- What is written of a descriptor depends only on what equal readings compare: its values, the bytes in its view, its identifier, its components up to the
 -- count and its EIDR.
 --     SameView        a view in one lent run of bytes and a view in another, with the same bytes
---     alike-made      of descriptors that are alike the same is written
---     same-made       equal readings, of both of which something is written, are alike: so it is the same
+--     alike_made      of descriptors that are alike the same is written
+--     same_made       equal readings, of both of which something is written, are alike: so it is the same
 use Prim.Native.Nat.{ℕ, ◌+◌, ◌≤◌}
 use mathlib.Core.Bool.{Bool, true, false, not, ◌&&◌, ◌||◌}
 use mathlib.Core.List.{List, [], ◌∷◌}

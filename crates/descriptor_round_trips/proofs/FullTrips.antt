@@ -1,6 +1,6 @@
 -- A full descriptor: its envelope, by identifier and tag, and what stands beside it.
 --     reads_as          what reads as its payload does reads so in its envelope
---     full-descriptor-read-write        a canonical descriptor is what is written of its reading
+--     full_descriptor_read_write        a canonical descriptor is what is written of its reading
 use Prim.Native.Nat.{ℕ, zero, suc, ◌+◌, ◌≤◌}
 use mathlib.Core.Bool.{Bool, true, false, ◌&&◌}
 use mathlib.Core.List.{List, [], ◌∷◌}

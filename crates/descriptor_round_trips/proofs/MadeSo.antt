@@ -1,8 +1,8 @@
 -- What is made of a descriptor is fixed by the readers and by the widths of its fields.
 --     numbers_fit       the fields of an active segmentation hold its numbers, and what always fits: flags, reserved bits, device restrictions
 --     tested            31 and 32, by the view and the numbers that are handed in
---     what-is-made      `descriptor_made` is what `DescriptorMakes` allows
---     nothing-else      and allows nothing else
+--     what_is_made      `descriptor_made` is what `DescriptorMakes` allows
+--     nothing_else      and allows nothing else
 use Prim.Native.Nat.{ℕ, ◌+◌, ◌^◌, ◌≤◌}
 use mathlib.Core.Bool.{Bool, true, false, ◌&&◌}
 use mathlib.Core.List.{List, [], ◌∷◌, ◌++◌}

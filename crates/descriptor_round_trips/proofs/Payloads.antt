@@ -1,6 +1,6 @@
 -- The payload that is written of a descriptor is the canonical payload that reads as it, and there is no other.
---     payload-write-read       what is written reads as what was handed in, and is canonical
---     written-if-read    a canonical payload that reads as what is handed in is what is written of it
+--     payload_write_read       what is written reads as what was handed in, and is canonical
+--     written_if_read    a canonical payload that reads as what is handed in is what is written of it
 use Prim.Native.Nat.{ℕ, ◌+◌, ◌/◌, ◌≤◌}
 use mathlib.Core.Bool.{Bool, true}
 use mathlib.Core.List.{List}

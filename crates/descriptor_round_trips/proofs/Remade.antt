@@ -1,7 +1,7 @@
 -- What a table makes depends only on what its fields hold.
---     same-make       fields that hold the same make the same bytes
---     active-makes    of an active segmentation: only its UPID's fields have a view
---     upid-found      of an active segmentation that reads back: the UPID's bytes
+--     same_make       fields that hold the same make the same bytes
+--     active_makes    of an active segmentation: only its UPID's fields have a view
+--     upid_found      of an active segmentation that reads back: the UPID's bytes
 use Prim.Native.Nat.{ℕ, ◌+◌, ◌^◌}
 use mathlib.Core.Bool.{Bool, true, false, ◌&&◌}
 use mathlib.Core.List.{List, [], ◌∷◌, ◌++◌}

@@ -1,6 +1,6 @@
 -- A segmentation descriptor: a canonical payload is what is written of its own reading.
---     segmentation-counted      as many components as the count says
---     segmentation-payload-read-write        the payload
+--     segmentation_counted      as many components as the count says
+--     segmentation_payload_read_write        the payload
 use Prim.Native.Nat.{ℕ, zero, suc, ◌+◌, ◌*◌, ◌-◌, ◌≤◌}
 use mathlib.Core.Bool.{Bool, true, false, ◌&&◌}
 use mathlib.Core.List.{List, [], ◌∷◌}

@@ -1,6 +1,6 @@
 -- Components as bytes.
---     listed-stores     their bytes stored are their fields stored
---     listed-so         stored from a target's first byte on, they are the bytes there
+--     listed_stores     their bytes stored are their fields stored
+--     listed_so         stored from a target's first byte on, they are the bytes there
 use Prim.Native.Nat.{ℕ, zero, suc, ◌+◌, ◌-◌, ◌*◌, ◌/◌, ◌<◌, ◌≤◌}
 use mathlib.Core.List.{List, [], ◌∷◌, ◌++◌}
 use mathlib.Core.Path.{◌≡◌, refl, ap, ap₂, sym, ◌∙◌}

@@ -1,7 +1,7 @@
 -- Contents stored one behind the other.
 --     then                              storing cs and then ds is storing both
---     put-number, put-bytes, put-none   one field; none
---     put-joined                        several fields as one number
+--     put_number, put_bytes, put_none   one field; none
+--     put_joined                        several fields as one number
 use Prim.Native.Nat.{ℕ, ◌+◌, ◌*◌, ◌<◌, ◌≤◌}
 use mathlib.Core.List.{List, [], ◌∷◌, ◌++◌, append_assoc}
 use mathlib.Core.Path.{◌≡◌, refl, ap, ap₂, sym, ◌∙◌}

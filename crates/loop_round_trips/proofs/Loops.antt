@@ -1,8 +1,8 @@
 -- The items of a loop that is cut into canonical descriptors, written again; and descriptors that are written, joined and read.
 --     written_at     what is written of an item is the piece, which is the item's run
---     every-item     what holds of each item where a piece stands holds of all
---     cut-one        loops with the same items are cut into the same descriptors
---     given-write-read     what is written of descriptors, joined, has them as its items
+--     every_item     what holds of each item where a piece stands holds of all
+--     cut_one        loops with the same items are cut into the same descriptors
+--     given_write_read     what is written of descriptors, joined, has them as its items
 use Prim.Native.Nat.{ℕ, ◌+◌, ◌-◌, ◌≤◌}
 use mathlib.Core.Bool.{true}
 use mathlib.Core.List.{List, [], ◌∷◌, ◌++◌}

@@ -1,7 +1,7 @@
 -- A loop cut into canonical descriptors: its items are these.
---     canonical-cut    a canonical loop is the join of canonical descriptors
---     cut-canonical    and the other way round
---     items-cut        the items of such a loop
+--     canonical_cut    a canonical loop is the join of canonical descriptors
+--     cut_canonical    and the other way round
+--     items_cut        the items of such a loop
 --     at_piece         a canonical descriptor that stands in any loop
 use Prim.Native.Nat.{ℕ, zero, suc, ◌+◌, ◌-◌, ◌≤◌, ◌<◌}
 use mathlib.Core.Bool.{Bool, true, ◌&&◌}

@@ -1,6 +1,6 @@
 -- A descriptor whose payload lies in a loop: the same with its view counted from the loop's first byte.
---     run-of-run       a run of a run
---     moved-values, moved-count, moved_view, moved-bytes
+--     run_of_run       a run of a run
+--     moved_values, moved_count, moved_view, moved_bytes
 use Prim.Native.Nat.{ℕ, zero, suc, ◌+◌, ◌≤◌}
 use mathlib.Core.Bool.{Bool, true, false, cond as pick}
 use mathlib.Core.List.{List, [], ◌∷◌, map}

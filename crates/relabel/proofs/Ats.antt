@@ -1,5 +1,5 @@
 -- The UPID stored where it goes, and what is answered.
---     refused-at     a refusal: no byte changes
+--     refused_at     a refusal: no byte changes
 --     wrote_at       what was stored
 use Prim.Native.Nat.{ℕ, zero, suc, ◌+◌, ◌-◌, ◌^◌, ◌<◌, ◌≤◌}
 use mathlib.Core.Bool.{Bool, true, false, not}

@@ -1,7 +1,7 @@
 -- The section then, by places: the definition's section is the one that is stored.
---     spotted-at    an item that is spotted, by places of the section; so is one that is found (`spotted`)
+--     spotted_at    an item that is spotted, by places of the section; so is one that is found (`spotted`)
 --     lies          the places lie in their order
---     cut-is        the section then is `cut_of` of its place
+--     cut_is        the section then is `cut_of` of its place
 use Prim.Native.Nat.{ℕ, zero, suc, ◌+◌, ◌*◌, ◌-◌, ◌/◌, ◌%◌, ◌<◌, ◌≤◌}
 use mathlib.Core.Bool.{true}
 use mathlib.Core.List.{List, [], ◌∷◌, ◌++◌, append_assoc}

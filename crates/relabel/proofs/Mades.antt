@@ -1,7 +1,7 @@
 -- What is made, case by case.
 --     limit_is                     how long the UPID may get
---     none-spotted, made-spotted   in a section that is accepted
---     section-refused, ..          what the section's reading says, or its frame and its command
+--     none_spotted, made_spotted   in a section that is accepted
+--     section_refused_lem, ..          what the section's reading says, or its frame and its command
 use Prim.Native.Nat.{ℕ, zero, suc, ◌+◌, ◌-◌, ◌<◌, ◌≤◌}
 use mathlib.Core.Bool.{Bool, true, false, ◌&&◌}
 use mathlib.Core.List.{List}

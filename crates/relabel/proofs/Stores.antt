@@ -1,7 +1,7 @@
 -- The stores, one behind the other, as one.
 --     over             a store over what was stored
---     front-stored     all up to the UPID: a copy, and what is mended in it
---     all-stored       what stands in the target in the end
+--     front_stored     all up to the UPID: a copy, and what is mended in it
+--     all_stored       what stands in the target in the end
 use Prim.Native.Nat.{ℕ, zero, suc, ◌+◌, ◌*◌, ◌-◌, ◌/◌, ◌%◌, ◌<◌, ◌≤◌}
 use mathlib.Core.List.{List, [], ◌∷◌, ◌++◌, append_assoc}
 use mathlib.Core.Path.{◌≡◌, refl, ap, ap₂, sym, ◌∙◌}

@@ -1,5 +1,5 @@
 -- What stands beside the items of a relabelled section.
---     old-besides, new-besides     the two lists
+--     old_besides, new_besides     the two lists
 use Prim.Native.Nat.{ℕ, zero, suc, ◌+◌, ◌-◌, ◌≤◌, ◌<◌}
 use mathlib.Core.List.{List, [], ◌∷◌, ◌++◌, map, map-append, append_assoc}
 use mathlib.Core.Path.{◌≡◌, refl, ap, ap₂, sym, subst, ◌∙◌}

@@ -1,5 +1,5 @@
 -- An item that is found: a segmentation descriptor that stands there whole, with a hole that its UPID fills.
---     active-at      the item, its tag, its identifier and its reading
+--     active_at_lem      the item, its tag, its identifier and its reading
 --     hole-in        the parts of its payload, by places
 use Prim.Native.Nat.{ℕ, suc, ◌+◌, ◌-◌, ◌≤◌, ◌<◌}
 use mathlib.Core.Bool.{Bool, true, false, not, ◌&&◌}

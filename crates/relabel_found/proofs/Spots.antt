@@ -1,7 +1,7 @@
 -- An item of which all is there but for the rules of its UPID.
---     reads-active              a payload that is complete, with a UPID that is accepted, is read as an active segmentation
---     active-complete           and an active segmentation's payload is complete
---     found-spots, spots-found  the same of an item
+--     reads_active              a payload that is complete, with a UPID that is accepted, is read as an active segmentation
+--     active_complete           and an active segmentation's payload is complete
+--     found_spots, spots_found  the same of an item
 use Prim.Native.Nat.{ℕ, ◌+◌, ◌*◌, ◌-◌, ◌/◌, ◌%◌, ◌≤◌, ◌<◌}
 use mathlib.Core.Bool.{Bool, true, false, not, ◌&&◌}
 use mathlib.Core.List.{List, []}

@@ -1,9 +1,9 @@
 -- The walk over the heads of a loop.
---     next-is         where an item ends that stands there whole
+--     next_is         where an item ends that stands there whole
 --     begins-..       one turn of the walk
 --     among           the item that begins there is one of the loop's
 --     found-..        whether the item is found
---     head-is         the place of the UPID's head, of its parts
+--     head_is         the place of the UPID's head, of its parts
 use Prim.Native.Nat.{ℕ, zero, suc, ◌+◌, ◌*◌, ◌-◌, ◌/◌, ◌%◌, ◌≤◌, ◌<◌}
 use mathlib.Core.Bool.{Bool, true, false, ◌&&◌, ◌||◌}
 use mathlib.Core.List.{List, [], ◌∷◌, ◌++◌}

@@ -1,7 +1,7 @@
 -- What is told of an item by its reading and its payload, in whichever loop it stands.
 --     moved_listed     the same behind more bytes
---     front-listed     the same before other bytes
---     own-listed       of a segmentation descriptor alone
+--     front_listed     the same before other bytes
+--     own_listed       of a segmentation descriptor alone
 --     at_listed        of the item that is found
 use Prim.Native.Nat.{ℕ, ◌+◌, ◌-◌, ◌≤◌}
 use mathlib.Core.Bool.{true}

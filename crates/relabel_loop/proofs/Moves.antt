@@ -1,6 +1,6 @@
 -- A step depends on the bytes from its offset on, and on nothing before them.
---     step-moved     a step in a loop with more bytes before it is the same, moved
---     items-moved    and so are the items from there on
+--     step_moved     a step in a loop with more bytes before it is the same, moved
+--     items_moved    and so are the items from there on
 use Prim.Native.Nat.{ℕ, zero, suc, ◌+◌, ◌-◌, ◌≤◌, ◌<◌}
 use mathlib.Core.Bool.{Bool, true, false, cond as pick}
 use mathlib.Core.List.{List, [], ◌∷◌, ◌++◌, map}

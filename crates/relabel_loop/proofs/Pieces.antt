@@ -1,6 +1,6 @@
 -- A piece of a loop: the step over it does not depend on what follows, and the items of what follows are the same, moved.
---     step-piece     the step over a whole item, whatever follows it
---     items-first    the items of a loop: its first, and those of the rest
+--     step_piece     the step over a whole item, whatever follows it
+--     items_first    the items of a loop: its first, and those of the rest
 --     replaced       one item replaced
 use Prim.Native.Nat.{ℕ, zero, suc, ◌+◌, ◌-◌, ◌≤◌, ◌<◌}
 use mathlib.Core.List.{List, [], ◌∷◌, ◌++◌, map, map-append, append_assoc, append-nil}

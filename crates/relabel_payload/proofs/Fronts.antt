@@ -1,7 +1,7 @@
 -- The fields of a segmentation payload up to its UPID, and the UPID itself.
---     split-front      the fields before the UPID, which read the same whatever UPID follows
+--     split_front      the fields before the UPID, which read the same whatever UPID follows
 --     written_is       the UPID that was read, as bytes
---     written-puts     any UPID in its place is read
+--     written_puts     any UPID in its place is read
 use Prim.Native.Nat.{ℕ, zero, suc, ◌+◌, ◌*◌, ◌-◌, ◌/◌, ◌%◌, ◌≤◌, ◌<◌}
 use mathlib.Core.Bool.{Bool, true, false, ◌&&◌}
 use mathlib.Core.List.{List, [], ◌∷◌, ◌++◌, append_assoc}

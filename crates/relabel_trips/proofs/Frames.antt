@@ -1,6 +1,6 @@
 -- A section with its own loop is the section, where its section_length was right; and of two loops put in one after the other only the second is left.
 --     twice       a loop put in where another was put in
---     set-right   section_length is right in whatever a loop was put in
+--     set_right   section_length is right in whatever a loop was put in
 --     own         a section with its own loop
 use Prim.Native.Nat.{ℕ, suc, ◌+◌, ◌*◌, ◌-◌, ◌/◌, ◌%◌, ◌≤◌, ◌<◌}
 use mathlib.Core.Bool.{Bool, true, false, not}

@@ -1,6 +1,6 @@
 -- One item of a loop: itself put where it stands, and another put in and taken out again.
---     own-item     the item's own bytes in its place
---     pay-then     the payload of the item that was put in
+--     own_item_lem     the item's own bytes in its place
+--     pay_then_lem     the payload of the item that was put in
 --     again        a third item in its place
 use Prim.Native.Nat.{ℕ, suc, ◌+◌, ◌-◌, ◌≤◌, ◌<◌}
 use mathlib.Core.Bool.{Bool, true, false, ◌&&◌, ◌||◌}

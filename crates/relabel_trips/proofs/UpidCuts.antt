@@ -1,6 +1,6 @@
 -- The UPID and the UPID then, each with its head, cut at the identifier.
---     value-all      the lengths in the heads around a part, once they are mended
---     upid-cut       the cutting
+--     value_all      the lengths in the heads around a part, once they are mended
+--     upid_cut       the cutting
 use Prim.Native.Nat.{ℕ, zero, suc, ◌+◌, ◌-◌, ◌≤◌, ◌<◌}
 use mathlib.Core.Bool.{Bool, true, false}
 use mathlib.Core.List.{List, [], ◌∷◌, ◌++◌, append-nil}

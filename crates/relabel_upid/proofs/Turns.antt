@@ -1,6 +1,6 @@
 -- What the functions of this crate answer, case by case.
---     fine-alone, fine-bytes       whether an identifier is taken
---     mended-on, mended-off        a turn of the loop that mends the heads
+--     fine_alone, fine_bytes       whether an identifier is taken
+--     mended_on, mended_off        a turn of the loop that mends the heads
 --     whole-.., part-..            what is made, or refused
 use Prim.Native.Nat.{ℕ, zero, suc, ◌+◌, ◌-◌, ◌≤◌, ◌<◌}
 use mathlib.Core.Path.{◌≡◌, refl, sym, ap, ap₂, subst, ◌∙◌}

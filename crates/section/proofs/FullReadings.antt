@@ -1,6 +1,6 @@
 -- The full reading of a section.
---     payload-is       what an accepted section says of its command's place
---     full_is, full-refused   the answer
+--     payload_is       what an accepted section says of its command's place
+--     full_is, full_refused   the answer
 use Prim.Native.Nat.{ℕ}
 use mathlib.Core.List.{List, []}
 use mathlib.Core.Path.{◌≡◌, refl, ap, sym, ◌∙◌}

@@ -1,7 +1,7 @@
 -- What the writer answers and leaves, return by return.
---     refused-for, short-for, wrote-for    what `answer_section` answers
---     section-answer                       that it is what the section's definition says
---     allowed, wrote-section               what stands where the answer is that it is written
+--     refused_for, short_for, wrote_for    what `answer_section` answers
+--     section_answer                       that it is what the section's definition says
+--     allowed, wrote_section               what stands where the answer is that it is written
 use Prim.Native.Nat.{ℕ, zero, suc, ◌+◌, ◌<◌, ◌≤◌}
 use mathlib.Core.Bool.{Bool, true, false}
 use mathlib.Core.List.{List}

@@ -1,6 +1,6 @@
 -- A section without a spare byte, whose first three bytes are right, is the frame of its own parts.
---     opening-is       the first three bytes as a number
---     frame-again      the section is what is made of its header, command and loop
+--     opening_is       the first three bytes as a number
+--     frame_again      the section is what is made of its header, command and loop
 use Prim.Native.Nat.{ℕ, ◌+◌, ◌*◌, ◌-◌, ◌/◌, ◌^◌, ◌<◌, ◌≤◌}
 use mathlib.Core.List.{List, [], ◌∷◌, ◌++◌, append_assoc}
 use mathlib.Core.Path.{◌≡◌, refl, ap, ap₂, sym, ◌∙◌}

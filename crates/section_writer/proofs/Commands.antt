@@ -1,6 +1,6 @@
 -- Commands in their canonical form.
---     null-canonical, ..       what is written of a command is canonical
---     command-one              canonical commands of equal readings are equal
+--     null_canonical, ..       what is written of a command is canonical
+--     command_one              canonical commands of equal readings are equal
 use Prim.Native.Nat.{ℕ, ◌*◌}
 use mathlib.Core.Bool.{Bool, true, false}
 use mathlib.Core.List.{List, [], ◌∷◌, ◌++◌}

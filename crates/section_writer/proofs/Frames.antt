@@ -1,8 +1,8 @@
 -- A section that is written, by its positions: each part stands where the reader looks for it.
---     length-frame, frame-first, frame-crc
---     frame-header, frame-clear, frame-command-length, frame-command-type, frame-command-bytes
---     frame-loop-length, frame-loop-place, frame-loop
---     frame-accepted     so the section is accepted, and its reading is the header, the command and the loop
+--     length_frame, frame_first, frame_crc
+--     frame_header, frame_clear, frame_command_length, frame_command_type, frame_command_bytes
+--     frame_loop_length, frame_loop_place, frame_loop
+--     frame_accepted     so the section is accepted, and its reading is the header, the command and the loop
 use Prim.Native.Nat.{ℕ, ◌+◌, ◌*◌, ◌-◌, ◌/◌, ◌%◌, ◌^◌, ◌<◌, ◌≤◌}
 use mathlib.Core.Bool.{Bool, true, false}
 use mathlib.Core.List.{List, [], ◌∷◌, ◌++◌, append_assoc}

@@ -1,6 +1,6 @@
 -- A section with its command, written and read.
---     command-write-read          what is written of a command reads as it, and is canonical
---     full-section-write-read       what is written of a header, a command and a loop reads as them, and is canonical
+--     command_write_read          what is written of a command reads as it, and is canonical
+--     full_section_write_read       what is written of a header, a command and a loop reads as them, and is canonical
 use Prim.Native.Nat.{ℕ, ◌+◌, ◌^◌, ◌<◌}
 use mathlib.Core.Bool.{Bool, true, false}
 use mathlib.Core.List.{List, [], ◌∷◌, ◌++◌}

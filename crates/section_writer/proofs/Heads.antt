@@ -1,7 +1,7 @@
 -- The bytes before a section's command: what they are as numbers, and that they are read again.
---     header-is-made     the header's bytes are what its table writes
---     length-header, length-opening, length-head
---     fits-within        what refusal 32 asks, number by number
+--     header_is_made     the header's bytes are what its table writes
+--     length_header, length_opening, length_head
+--     fits_within        what refusal 32 asks, number by number
 use Prim.Native.Nat.{ℕ, ◌+◌, ◌*◌, ◌-◌, ◌/◌, ◌^◌, ◌<◌, ◌≤◌}
 use mathlib.Core.Bool.{Bool, true, false, not, ◌&&◌}
 use mathlib.Core.List.{List, [], ◌∷◌, ◌++◌, append_assoc}

@@ -1,8 +1,8 @@
 -- Numbers in whole bytes of a list, written and read by their place.
 --     number_at        a number that stands in a list is read there
---     number-bytes     and what is read there are the bytes themselves
---     field-behind     a field of a list, in what is left when bytes are dropped
---     field-front      and in what is kept when bytes are taken
+--     number_bytes     and what is read there are the bytes themselves
+--     field_behind     a field of a list, in what is left when bytes are dropped
+--     field_front      and in what is kept when bytes are taken
 use Prim.Native.Nat.{ℕ, zero, suc, ◌+◌, ◌*◌, ◌-◌, ◌/◌, ◌^◌, ◌<◌, ◌≤◌}
 use mathlib.Core.List.{List, [], ◌∷◌, ◌++◌, append_assoc}
 use mathlib.Core.Path.{◌≡◌, refl, ap, sym, ◌∙◌}

@@ -1,6 +1,6 @@
 -- What the store functions rest on.
---     is-fitting, not-fitting     the answer of the test for refusal 32
---     head-stored, tail-stored    the stores before the command, and those behind it, as one
+--     is_fitting, not_fitting     the answer of the test for refusal 32
+--     head_stored, tail_stored    the stores before the command, and those behind it, as one
 use Prim.Native.Nat.{ℕ, ◌+◌, ◌*◌, ◌-◌, ◌/◌, ◌%◌, ◌^◌, ◌<◌, ◌≤◌}
 use mathlib.Core.Bool.{Bool, true, false, not, ◌&&◌}
 use mathlib.Core.List.{List, [], ◌∷◌, ◌++◌, append_assoc}

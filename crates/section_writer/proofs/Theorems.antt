@@ -1,8 +1,8 @@
 -- A whole section, written and read.
---     section-is-canonical       what is written has the canonical form
---     section-write-read         and reads as what was handed in
---     section-read-write    a canonical section is what is written of its reading
---     section-one           canonical sections of equal readings are equal, where their loops have equal bytes
+--     section_is_canonical       what is written has the canonical form
+--     section_write_read         and reads as what was handed in
+--     section_read_write    a canonical section is what is written of its reading
+--     section_one           canonical sections of equal readings are equal, where their loops have equal bytes
 use Prim.Native.Nat.{ℕ, ◌+◌, ◌^◌, ◌<◌, ◌≤◌}
 use mathlib.Core.Bool.{Bool, true, ◌&&◌}
 use mathlib.Core.List.{List}

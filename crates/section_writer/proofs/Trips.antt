@@ -1,10 +1,10 @@
 -- Both round trips of a section around its command and its loop.
---     section-wrote          what was made passed every test, and is a frame
---     frame-canonical        what is written has the canonical form
---     frame-write-read     it reads as what was handed in
---     section-is-frame       a section whose frame is canonical is the frame of its parts
---     frame-read-write     a canonical section is what is written of its reading
---     frame-one            canonical sections of equal parts are equal
+--     section_wrote          what was made passed every test, and is a frame
+--     frame_canonical        what is written has the canonical form
+--     frame_write_read     it reads as what was handed in
+--     section_is_frame       a section whose frame is canonical is the frame of its parts
+--     frame_read_write     a canonical section is what is written of its reading
+--     frame_one            canonical sections of equal parts are equal
 use Prim.Native.Nat.{ℕ, zero, suc, ◌+◌, ◌*◌, ◌-◌, ◌/◌, ◌^◌, ◌<◌, ◌≤◌}
 use mathlib.Core.Bool.{Bool, true, false, not, ◌&&◌, ◌||◌}
 use mathlib.Core.List.{List, [], ◌∷◌, ◌++◌, append_assoc}

@@ -1,7 +1,7 @@
 -- Bits, numbers and bytes, back and forth.
---     num-bits, num_of, num-back     a number and its bits
+--     num_bits, num_of, num_back     a number and its bits
 --     bytes_bits, bits-bytes         bytes and their bits
---     bits-join, bits-split          a field of a + b bits, and one of a bits before one of b
+--     bits_join, bits_split          a field of a + b bits, and one of a bits before one of b
 use Prim.Native.Nat.{ℕ, zero, suc, ◌+◌, ◌*◌, ◌-◌, ◌/◌, ◌%◌, ◌^◌, ◌<◌, ◌≤◌}
 use mathlib.Core.List.{List, [], ◌∷◌, ◌++◌}
 use mathlib.Core.Path.{◌≡◌, refl, ap, ap₂, sym, ◌∙◌}

@@ -1,7 +1,7 @@
 -- Fields of bits in terms of each other and of bytes.
---     field-bits, field_below, field-num     a field that is there: its bits, its bound; and one that was written
---     field-add, field-byte, field_end       a field in two parts, one byte more, nothing more
---     bits-bytes                             the bits of bytes that were made of bits
+--     field_bits, field_below, field_num     a field that is there: its bits, its bound; and one that was written
+--     field_add, field_byte, field_end       a field in two parts, one byte more, nothing more
+--     bits_bytes                             the bits of bytes that were made of bits
 use Prim.Native.Nat.{ℕ, zero, suc, ◌+◌, ◌*◌, ◌-◌, ◌/◌, ◌%◌, ◌^◌, ◌<◌, ◌≤◌}
 use mathlib.Core.List.{List, [], ◌∷◌, ◌++◌, append_assoc}
 use mathlib.Core.Path.{◌≡◌, refl, ap, sym, ◌∙◌}

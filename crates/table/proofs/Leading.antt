@@ -1,7 +1,7 @@
 -- Where a value's own fields lead: the fact `ends` that a structure owes.
---     leads-in, leads-done                        a table inside another, and its end
---     leads-number, leads-flag, leads-ones,
---     leads-part, leads-remaining, leads-list     the tables that others are made of
+--     leads_in, leads_done                        a table inside another, and its end
+--     leads_number, leads_flag, leads_ones,
+--     leads_part, leads_remaining, leads_list     the tables that others are made of
 use Prim.Native.Nat.{ℕ, zero, suc, ◌+◌, ◌*◌, ◌-◌, ◌/◌, ◌%◌, ◌^◌, ◌<◌, ◌≤◌}
 use mathlib.Core.Bool.{Bool, true, false, ◌&&◌}
 use mathlib.Core.List.{List, [], ◌∷◌}

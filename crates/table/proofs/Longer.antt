@@ -1,7 +1,7 @@
 -- Bytes behind the last field: a table that never asks how many bytes are left reads the same whatever follows.
---     goes_on, on-number, tolerates              of bits, and of bytes
---     blind-inside, blind-pick, blind-list       tables that are so
---     viewed-on                                  a view of longer bytes
+--     goes_on, on_number, tolerates              of bits, and of bytes
+--     blind_inside, blind_pick, blind_list       tables that are so
+--     viewed_on                                  a view of longer bytes
 use Prim.Native.Nat.{ℕ, zero, suc, ◌+◌, ◌*◌, ◌-◌, ◌/◌, ◌≤◌}
 use mathlib.Core.Bool.{Bool, true, false}
 use mathlib.Core.List.{List, ◌++◌}

@@ -1,7 +1,7 @@
 -- What the functions that read numbers rest on.
---     field_lt, field-exact      a field is below 2 ^ w, so 64 bits hold one of at most 64
+--     field_lt, field_exact      a field is below 2 ^ w, so 64 bits hold one of at most 64
 --     bits_are                   what `bits` answers of at most 64 bits
---     turn-bits, turn_byte, turn-none     a turn of the loops that read
+--     turn_bits, turn_byte, turn_none     a turn of the loops that read
 --     shift_in                   w bits more behind a number that is kept modulo 2 ^ 64
 use Prim.Native.Nat.{ℕ, zero, suc, ◌+◌, ◌*◌, ◌-◌, ◌/◌, ◌%◌, ◌^◌, ◌<◌, ◌≤◌}
 use mathlib.Core.List.{List}

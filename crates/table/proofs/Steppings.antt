@@ -1,6 +1,6 @@
 -- The cursor's steps.
---     take-got, take-lacks, pass-got, pass-lacks   what the steps rest on
---     taken-got, taken-lacks, flagged-got, ..      what a step's answer says of the reading, for readers that walk with a cursor
+--     take_got, take_lacks, pass_got, pass_lacks   what the steps rest on
+--     taken_got, taken_lacks, flagged_got, ..      what a step's answer says of the reading, for readers that walk with a cursor
 use Prim.Native.Nat.{ℕ, ◌+◌, ◌*◌, ◌-◌, ◌/◌, ◌%◌, ◌^◌, ◌<◌, ◌≤◌}
 use mathlib.Core.Bool.{Bool, true, false}
 use mathlib.Core.List.{List}

@@ -1,8 +1,8 @@
 -- Reading a table step by step, by bit positions, as the code that reads it does. s are the bytes, `at` the bit.
 --     takes-.., lacks-..      a field that is there, and one that is not
 --     reads-..                one that was read is there
---     takes-in, lacks-in      an inner table that is read, and one that is not
---     list-turn, list-short   a turn of a list's loop
+--     takes_in, lacks_in      an inner table that is read, and one that is not
+--     list_turn, list_short   a turn of a list's loop
 use Prim.Native.Nat.{ℕ, zero, suc, ◌+◌, ◌*◌, ◌-◌, ◌/◌, ◌%◌, ◌^◌, ◌<◌, ◌≤◌}
 use mathlib.Core.Bool.{Bool, true, false, ◌&&◌}
 use mathlib.Core.List.{List, [], ◌∷◌, ◌++◌}

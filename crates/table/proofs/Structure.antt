@@ -1,8 +1,8 @@
 -- The laws of a structure of whole bytes.
 --     write_same        and that reading is equal to what was handed in
 --     write_read        what is written of x reads as x, its views at their new places, and is canonical
---     read-write        canonical bytes begin with what is written of their reading; without a spare byte they are it
---     write-one      canonical bytes of equal readings are equal
+--     read_write        canonical bytes begin with what is written of their reading; without a spare byte they are it
+--     write_one      canonical bytes of equal readings are equal
 use Prim.Native.Nat.{ℕ, zero, suc, ◌+◌, ◌*◌, ◌-◌, ◌/◌, ◌%◌, ◌^◌, ◌<◌, ◌≤◌}
 use mathlib.Core.Bool.{Bool, true, false}
 use mathlib.Core.List.{List, [], ◌∷◌, ◌++◌, append_assoc}

@@ -1,7 +1,7 @@
 -- Tables over bytes of which a part is replaced.
 --     swap        a table that ended before the place reads the same whatever stands there
 --     shift       a table without views that starts after the place reads the same, moved
---     swap-form, shift-form    and is canonical where it was
+--     swap_form, shift_form    and is canonical where it was
 --     ends_at     a table that takes whole bytes ends where a byte begins
 use Prim.Native.Nat.{ℕ, zero, suc, ◌+◌, ◌*◌, ◌-◌, ◌/◌, ◌%◌, ◌≤◌, ◌<◌}
 use mathlib.Core.Bool.{Bool, true, false, ◌&&◌}

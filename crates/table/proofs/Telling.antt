@@ -1,7 +1,7 @@
 -- How a table made of tables tells its fields: the fact `tells` that a structure owes.
---     tells-in                                 a table inside another
---     tells-number, tells-flag, tells-ones,
---     tells-part, tells-remaining, tells-list  the tables that others are made of
+--     tells_in                                 a table inside another
+--     tells_number, tells_flag, tells_ones,
+--     tells_part, tells_remaining, tells_list  the tables that others are made of
 use Prim.Native.Nat.{ℕ, zero, suc, ◌+◌, ◌*◌, ◌-◌, ◌/◌, ◌%◌, ◌^◌, ◌<◌, ◌≤◌}
 use mathlib.Core.Bool.{Bool, true, false}
 use mathlib.Core.List.{List, [], ◌∷◌}

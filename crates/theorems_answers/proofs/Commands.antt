@@ -1,8 +1,8 @@
 -- A command alone, and as a section has it; and what is written of the words of a command.
---     moved-flat, flat-number    the words of a command that is read
---     as-its-command             a section that none of 1 to 9 refuses is refused as its command is
---     payload-words              what is written of words is a canonical payload that reads as they say
---     command-words              and it is the command of the section that is written of them
+--     moved_flat, flat_number    the words of a command that is read
+--     as_its_command             a section that none of 1 to 9 refuses is refused as its command is
+--     payload_words              what is written of words is a canonical payload that reads as they say
+--     command_words              and it is the command of the section that is written of them
 use Prim.Native.Nat.{ℕ, suc, ◌+◌}
 use mathlib.Core.Bool.{Bool, true, false}
 use mathlib.Core.List.{List, [], ◌∷◌, ◌++◌, map}

@@ -1,5 +1,5 @@
 -- Every public function's contract fixes its answer, and asks nothing of the caller (specs/FixedAnswers.antt): a line for each.
--- A slice that is handed back is fixed in its bytes, and not in its address: `view`, `bytes_of`, `part_bytes`, `loop-of`, `private-bytes-of`. A store has no answer: its
+-- A slice that is handed back is fixed in its bytes, and not in its address: `view`, `bytes_of`, `part_bytes`, `loop_of`, `private_bytes_of`. A store has no answer: its
 -- target's later bytes are fixed, `put_byte`, `put_number`, `put_bytes`. The programs' `list_input` has no answer and no target, and no line: it prints.
 use mathlib.Core.Path.{◌≡◌, refl, sym, ◌∙◌}
 use Prim.Native.Nat.{◌%◌, ◌*◌, ◌+◌, ◌-◌, ◌/◌, ◌^◌}

@@ -1,7 +1,7 @@
 -- The words of an answer over C say what the answer says.
---     item-lies     an item whose identifier is whole
---     parts-flat    the parts of a UPID, field by field
---     upid-says     its type, and an EIDR
+--     item_lies     an item whose identifier is whole
+--     parts_flat    the parts of a UPID, field by field
+--     upid_says_lem     its type, and an EIDR
 use Prim.Native.Nat.{ℕ, zero, suc, ◌+◌, ◌-◌, ◌≤◌, ◌<◌}
 use mathlib.Core.Bool.{Bool, true, false}
 use mathlib.Core.List.{List, [], ◌∷◌, ◌++◌, map}

@@ -1,6 +1,6 @@
 -- A loop that is stepped through has the items that it is defined to have.
---     stepped-items      what the steps answer
---     stepped-over-c     and over C
+--     stepped_items      what the steps answer
+--     stepped_over_c     and over C
 use Prim.Native.Nat.{ℕ, ◌+◌, ◌-◌, ◌≤◌, ◌<◌}
 use mathlib.Core.List.{List, [], ◌∷◌}
 use mathlib.Core.Path.{◌≡◌, refl, ap, sym, subst, ◌∙◌}

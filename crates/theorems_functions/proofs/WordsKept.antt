@@ -1,9 +1,9 @@
 -- What is read of what was written over C keeps the words that were handed in.
---     private-again       a private command's bytes
---     components-again    the components of an insert
---     descriptor-written  a descriptor that was written of words
---     item-again          its words, where it stands in a loop
---     beside-again        and those of what stands beside it
+--     private_again       a private command's bytes
+--     components_again    the components of an insert
+--     descriptor_written  a descriptor that was written of words
+--     item_again          its words, where it stands in a loop
+--     beside_again        and those of what stands beside it
 use Prim.Native.Nat.{ℕ, zero, suc, ◌+◌, ◌^◌, ◌≤◌, ◌<◌}
 use mathlib.Core.Bool.{Bool, true, false}
 use mathlib.Core.List.{List, [], ◌∷◌, ◌++◌, map, append-nil}

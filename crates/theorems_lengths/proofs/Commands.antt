@@ -1,6 +1,6 @@
 -- What is written of a command that is read has no more bytes than its payload.
---     insert-past        a reading of an insert ends where its own bytes say, canonical or not
---     command-shorter    so of every command of a section
+--     insert_past        a reading of an insert ends where its own bytes say, canonical or not
+--     command_shorter    so of every command of a section
 use Prim.Native.Nat.{ℕ, zero, suc, ◌+◌, ◌-◌, ◌*◌, ◌/◌, ◌≤◌}
 use mathlib.Core.Bool.{Bool, true, false}
 use mathlib.Core.List.{List, [], ◌∷◌, ◌++◌}

@@ -1,5 +1,5 @@
 -- What is written of an item that is read has no more bytes than the item.
---     item-shorter    at any offset of any loop; and it is bytes
+--     item_shorter    at any offset of any loop; and it is bytes
 use Prim.Native.Nat.{ℕ, ◌+◌, ◌-◌, ◌≤◌, ◌<◌}
 use mathlib.Core.Bool.{Bool, true, false}
 use mathlib.Core.List.{List, [], ◌∷◌, ◌++◌}

@@ -1,7 +1,7 @@
 -- A section that is read is written again, in no more bytes.
---     section-shorter    if none of its items is refused, and its insert, if it is one, has 127 in its reserved bits
---     only-such          and only then
---     canonical-such     as of every canonical section
+--     section_shorter    if none of its items is refused, and its insert, if it is one, has 127 in its reserved bits
+--     only_such          and only then
+--     canonical_such     as of every canonical section
 use Prim.Native.Nat.{ℕ, ◌+◌, ◌≤◌}
 use mathlib.Core.Bool.{Bool, true, false}
 use mathlib.Core.List.{List, [], ◌∷◌, ◌++◌}

@@ -1,6 +1,6 @@
 -- Which types of a command are known.
---     unknown-is              a command is of an unknown type by its type alone
---     unknown-if, unknown-only-if
+--     unknown_is              a command is of an unknown type by its type alone
+--     unknown_if, unknown_only_if
 use Prim.Native.Nat.{ℕ}
 use mathlib.Core.Bool.{Bool, true, false}
 use mathlib.Core.List.{List}

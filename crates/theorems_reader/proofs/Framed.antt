@@ -1,6 +1,6 @@
 -- What an accepted section is made of.
 --     laid          its parts: where its loop lies, its command, and its length
---     private-in    the bytes of a private command lie in its payload
+--     private_in    the bytes of a private command lie in its payload
 use Prim.Native.Nat.{ℕ, ◌+◌, ◌*◌, ◌-◌, ◌/◌, ◌≤◌}
 use mathlib.Core.Bool.{Bool, true, false}
 use mathlib.Core.List.{List}

@@ -1,9 +1,9 @@
 -- The UPIDs of an item, in the section that holds its loop.
 --     found          each UPID of an item is one of its payload's, moved
 --     unsplit        a run of the section that is accepted as a MID
---     mid-of         a MID of an item
---     eidr-of        an EIDR of an item
---     beside-runs    the identifier beside an item
+--     mid_of         a MID of an item
+--     eidr_of        an EIDR of an item
+--     beside_runs    the identifier beside an item
 use Prim.Native.Nat.{ℕ, ◌+◌, ◌-◌, ◌≤◌}
 use mathlib.Core.List.{List, [], ◌∷◌, map}
 use mathlib.Core.Path.{◌≡◌, refl, ap, sym, ◌∙◌}

@@ -1,8 +1,8 @@
 -- Runs of runs.
---     viewed-is         a view that lies in the lent bytes
+--     viewed_is         a view that lies in the lent bytes
 --     length_run        a run has as many bytes as it says
---     section-run       a view of the section
---     lent-run          a view of a run
+--     section_run       a view of the section
+--     lent_run          a view of a run
 --     get_d_run          a byte of a run
 use Prim.Native.Nat.{ℕ, ◌+◌, ◌≤◌, ◌<◌}
 use mathlib.Core.Bool.{Bool, true, false}

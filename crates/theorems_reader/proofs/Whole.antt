@@ -1,7 +1,7 @@
 -- The identifiers of an accepted section are whole.
---     whole-at         of the item that is read at any offset of its loop
---     whole-items      of each item of the loop
---     whole-command    of its command
+--     whole_at         of the item that is read at any offset of its loop
+--     whole_items      of each item of the loop
+--     whole_command    of its command
 use Prim.Native.Nat.{ℕ, ◌+◌, ◌*◌, ◌-◌, ◌/◌, ◌%◌, ◌≤◌, ◌<◌}
 use mathlib.Core.Bool.{Bool, true, false}
 use mathlib.Core.List.{List, [], ◌∷◌}

@@ -1,5 +1,5 @@
 -- What a descriptor's payload says of its identifiers, in its own bytes.
---     payload-says     of whatever is read of it
+--     payload_says_lem     of whatever is read of it
 use Prim.Native.Nat.{ℕ, zero, suc, ◌+◌, ◌*◌, ◌-◌, ◌/◌, ◌%◌, ◌^◌, ◌≤◌, ◌<◌}
 use mathlib.Core.Bool.{Bool, true, false}
 use mathlib.Core.List.{List, [], ◌∷◌}

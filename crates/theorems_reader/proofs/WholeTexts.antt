@@ -1,5 +1,5 @@
 -- The text of refusal 24: it stands behind its own head, its type and its length, also where it is a part of a MID, at any level.
---     text-headed      of a UPID with its head before it
+--     text_headed      of a UPID with its head before it
 use Prim.Native.Nat.{ℕ, zero, suc, ◌+◌, ◌-◌, ◌≤◌, ◌<◌}
 use mathlib.Core.Bool.{Bool, true, false, not, ◌&&◌, cond as pick}
 use mathlib.Core.List.{List, [], ◌∷◌}

@@ -1,7 +1,7 @@
 -- Two canonical sections of which the readers answer the same are equal.
---     payload-of     a command's payload is a function of what is compared of the command
+--     payload_of_lem     a command's payload is a function of what is compared of the command
 --     one_answer     so the sections have equal parts
---     own-answer     a canonical section has the same reading as itself
+--     own_answer     a canonical section has the same reading as itself
 use Prim.Native.Nat.{ℕ, ◌+◌}
 use mathlib.Core.Bool.{true}
 use mathlib.Core.List.{List, [], ◌++◌}

@@ -1,9 +1,9 @@
 -- What is made of a command is fixed by the command reader and the fields' widths.
 --     tested             the tests of the command writer, in order
---     payload-made       what is made of a command is a canonical payload that reads as it
---     made-if-read       a canonical payload that reads as a command is what is made of it
---     command-makes      so the answer is the relation's
---     one-command-made   and the relation leaves one
+--     payload_made_lem       what is made of a command is a canonical payload that reads as it
+--     made_if_read       a canonical payload that reads as a command is what is made of it
+--     command_makes      so the answer is the relation's
+--     one_command_made   and the relation leaves one
 use Prim.Native.Nat.{ℕ, ◌/◌, ◌^◌, ◌≤◌}
 use mathlib.Core.Bool.{Bool, true, false, ◌&&◌}
 use mathlib.Core.List.{List, []}

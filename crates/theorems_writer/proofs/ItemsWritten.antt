@@ -1,9 +1,9 @@
 -- A section's loop, written of its items.
---     loop-written      each item of a canonical section's loop is written as its own bytes, which joined are the loop
---     keeps-upids       each of its items keeps its UPID
---     one-loop          two canonical sections with the same items have equal loops
---     one-of-items      and are equal, if they say the same around them
---     items-read        descriptors that are written, joined and put in a section are its items
+--     loop_written      each item of a canonical section's loop is written as its own bytes, which joined are the loop
+--     keeps_upids       each of its items keeps its UPID
+--     one_loop          two canonical sections with the same items have equal loops
+--     one_of_items      and are equal, if they say the same around them
+--     items_read        descriptors that are written, joined and put in a section are its items
 use Prim.Native.Nat.{ℕ, ◌+◌, ◌≤◌}
 use mathlib.Core.Bool.{Bool, true, false}
 use mathlib.Core.List.{List, [], ◌∷◌, map}

@@ -1,8 +1,8 @@
 -- The numbers that are handed in fit exactly if the fields of the tables do: these hold the numbers, and what always fits (flags, reserved bits).
---     insert-fits    of an insert, with the times of its components
---     time-fits      of a time
---     private-fits   of a private command
---     header-fits    of a splice header
+--     insert_fits    of an insert, with the times of its components
+--     time_fits      of a time
+--     private_fits   of a private command
+--     header_fits    of a splice header
 use Prim.Native.Nat.{ℕ, ◌^◌}
 use mathlib.Core.Bool.{Bool, true, false, ◌&&◌}
 use mathlib.Core.List.{List, [], ◌∷◌, ◌++◌}

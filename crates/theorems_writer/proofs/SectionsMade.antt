@@ -1,9 +1,9 @@
 -- What is made of a section is fixed by the readers and the fields' widths.
 --     written_back       a canonical section is what is made of its payload, its type and its loop, with any header that is its own but for the command's length and type
---     of-header          such a header passes the writer's tests of it
+--     of_header          such a header passes the writer's tests of it
 --     header_of          and one that passes them is that of a null with an empty loop
---     section-makes      so the answer is the relation's
---     one-section-made   and the relation leaves one
+--     section_makes      so the answer is the relation's
+--     one_section_made   and the relation leaves one
 use Prim.Native.Nat.{ℕ, ◌-◌, ◌^◌, ◌≤◌, ◌<◌}
 use mathlib.Core.Bool.{Bool, true, false, not, ◌&&◌}
 use mathlib.Core.List.{List, [], ◌∷◌, ◌++◌}

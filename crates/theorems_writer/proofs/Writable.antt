@@ -1,5 +1,5 @@
 -- Whatever is read of a loop's item can be written, canonical or not.
---     can-be-written    at any offset of any loop
+--     can_be_written    at any offset of any loop
 use Prim.Native.Nat.{ℕ, ◌+◌, ◌-◌, ◌≤◌}
 use mathlib.Core.List.{List}
 use mathlib.Core.Path.{◌≡◌, refl, ap, ap₂, sym, subst, ◌∙◌}

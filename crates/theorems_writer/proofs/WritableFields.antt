@@ -1,6 +1,6 @@
 -- What is read of the fields of a segmentation descriptor can be written: each number is within its field, and each flag agrees with its part. The bytes need not be
 -- canonical: reserved bits are any, and bytes may be left over.
---     front_kept, back-kept
+--     front_kept, back_kept
 use Prim.Native.Nat.{ℕ, zero, suc, ◌+◌, ◌*◌, ◌-◌, ◌/◌, ◌^◌, ◌≤◌, ◌<◌}
 use mathlib.Core.Bool.{Bool, true, false, not, ◌&&◌}
 use mathlib.Core.List.{List, [], ◌∷◌}

@@ -1,5 +1,5 @@
 -- What is read of an insert can be written, if its reserved bits are 127.
---     insert-kept       what was read of an insert: its numbers are within their fields, its components are all immediate or all timed
+--     insert_kept       what was read of an insert: its numbers are within their fields, its components are all immediate or all timed
 --     insert-written    so it is written
 use Prim.Native.Nat.{ℕ, zero, suc, ◌+◌, ◌-◌, ◌^◌, ◌≤◌, ◌<◌}
 use mathlib.Core.Bool.{Bool, true, false, not, ◌&&◌}

@@ -1,6 +1,6 @@
 -- Whatever is read of a descriptor's payload is written. The payload need not be canonical.
 --     ready          what is read of a payload is within its fields and writable
---     is-written     so something is made of it
+--     is_written     so something is made of it
 use Prim.Native.Nat.{ℕ, ◌+◌, ◌*◌, ◌-◌, ◌/◌, ◌^◌, ◌≤◌, ◌<◌}
 use mathlib.Core.Bool.{Bool, true, false, not, ◌&&◌}
 use mathlib.Core.List.{List, [], ◌∷◌}

@@ -1,8 +1,8 @@
 -- Sections that come from transport packets: "Framing now fixes section_length before demand 2's reader is called" (02, Q-9).
---     length-bits-right    the 12 bits that the canonical form looks at are the section's length less 3
---     taken-framed         so it is with every section that `take` hands out, from any state
---     given-canonical      of the canonical form the test of the length falls away; refusals 1 and 2 never apply
---     canonical-laid       a canonical section can be laid into packets, and comes back (`code_multiplexed`)
+--     length_bits_right    the 12 bits that the canonical form looks at are the section's length less 3
+--     taken_framed         so it is with every section that `take` hands out, from any state
+--     given_canonical      of the canonical form the test of the length falls away; refusals 1 and 2 never apply
+--     canonical_laid       a canonical section can be laid into packets, and comes back (`code_multiplexed`)
 use Prim.Native.Nat.{ℕ, suc, ◌+◌, ◌*◌, ◌-◌, ◌/◌, ◌%◌, ◌≤◌, ◌<◌}
 use mathlib.Core.Bool.{Bool, true, false, ◌&&◌}
 use mathlib.Core.List.{List, [], ◌∷◌}

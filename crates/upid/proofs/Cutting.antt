@@ -1,7 +1,7 @@
 -- Cuttings of a MID.
---     one-cutting    no two cuttings join to the same bytes
---     placed-once    each byte lies in exactly one of the pieces of a cutting
---     placed-runs    and their payloads are runs of the top UPID
+--     one_cutting    no two cuttings join to the same bytes
+--     placed_once    each byte lies in exactly one of the pieces of a cutting
+--     placed_runs    and their payloads are runs of the top UPID
 use Prim.Native.Nat.{ℕ, ◌+◌, ◌≤◌, ◌<◌}
 use mathlib.Core.Path.{◌≡◌, refl, sym, ◌∙◌}
 use mathlib.Core.List.{List, [], ◌∷◌, ◌++◌, map, append_assoc}

@@ -1,8 +1,8 @@
 -- Laws of the definitions of a MID.
---     read-nil, read_one, read_more    a MID is read by these three equations
---     list-nil, list-more              and so are its parts
+--     read_nil, read_one, read_more    a MID is read by these three equations
+--     list_nil, list_more              and so are its parts
 --     few                              n bytes have at most n / 2 parts
---     then-both, then-off, then-on     what is accepted, part by part
+--     then_both, then_off, then_on     what is accepted, part by part
 use Prim.Native.Nat.{ℕ, zero, suc, ◌+◌, ◌*◌, ◌≤◌, ◌<◌}
 use mathlib.Core.Path.{◌≡◌, refl, sym, ap, ◌∙◌}
 use mathlib.Core.Bool.{Bool, true, false, cond as pick}

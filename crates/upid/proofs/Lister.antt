@@ -1,7 +1,7 @@
 -- Laws of the walk that lists the parts of a MID, over bytes that were accepted: which MIDs are open at a place, and what parts are left.
---     open-first            the walk begins in the top MID
+--     open_first            the walk begins in the top MID
 --     closed                it leaves a MID
---     part-complete            it meets a part: the head is whole, and so is the payload
+--     part_complete            it meets a part: the head is whole, and so is the payload
 --     passed, entered       it passes a part that is no MID, and goes into one that is
 --     begun, store, ended   the list that it fills
 use Prim.Native.Nat.{ℕ, zero, suc, ◌+◌, ◌-◌, ◌≤◌, ◌<◌}

@@ -1,7 +1,7 @@
 -- What a UPID that is accepted reports, and what was written of it.
 --     reports          the reported type, and the length of a type that has a fixed one
---     mid-is-written   a MID was written as one
---     eidr-is-written  an EIDR was written as one, with 12 bytes
+--     mid_is_written   a MID was written as one
+--     eidr_is_written  an EIDR was written as one, with 12 bytes
 use Prim.Native.Nat.{ℕ, zero, suc, ◌+◌, ◌≤◌}
 use mathlib.Core.Bool.{Bool, true, false, not, ◌&&◌, cond as pick}
 use mathlib.Core.List.{List, [], ◌∷◌}

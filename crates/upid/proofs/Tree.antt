@@ -1,6 +1,6 @@
 -- An accepted MID as a tree of parts, and what its records say of it.
 --     grow         an accepted MID is a tree's bytes, and its list of parts that tree's records
---     top-piece, inner-pieces    the top MID, and each MID inside it, is cut into its direct parts
+--     top_piece, inner_pieces    the top MID, and each MID inside it, is cut into its direct parts
 --     announced, shallow           each record has a head before it, and is not too deep
 use Prim.Native.Nat.{ℕ, zero, suc, ◌+◌, ◌*◌, ◌-◌, ◌≤◌, ◌<◌}
 use mathlib.Core.Path.{◌≡◌, refl, sym, ap, ◌∙◌}

@@ -1,6 +1,6 @@
 -- The test of text is RFC 3629's grammar.
---     one-row         no byte begins two rows of the grammar: one test, computed over the bytes
---     text-is-utf8, utf8-is-text    the test passes exactly on the grammar's strings
+--     one_row         no byte begins two rows of the grammar: one test, computed over the bytes
+--     text_is_utf8, utf8_is_text    the test passes exactly on the grammar's strings
 use Prim.Native.Nat.{ℕ, zero, suc, ◌+◌, ◌≤◌, ◌<◌}
 use mathlib.Core.Path.{◌≡◌, refl, ap, ◌∙◌}
 use mathlib.Core.Bool.{Bool, true, false, ◌&&◌, cond as pick}

@@ -1,8 +1,8 @@
 -- Laws of a walk of a MID that meets its parts at a place `at` of its bytes, and of a list of parts. (The walk that fills the list: Lister.antt.)
---     read-end, read_head, read_short, read-stop, read-on    a turn of the walk
---     grown-nil, grown-more, grown-blank                     a list grows by one run of parts after the other
+--     read_end, read_head, read_short, read_stop, read_on    a turn of the walk
+--     grown_nil, grown_more, grown_blank                     a list grows by one run of parts after the other
 --     sound                                                  a turn over what was accepted
---     answer-refused, answer-fine                            the answer
+--     answer_refused, answer_fine                            the answer
 use Prim.Native.Nat.{ℕ, zero, suc, ◌+◌, ◌-◌, ◌≤◌, ◌<◌}
 use mathlib.Core.Path.{◌≡◌, refl, sym, ap, ◌∙◌}
 use mathlib.Core.List.{List, [], ◌∷◌, ◌++◌}
