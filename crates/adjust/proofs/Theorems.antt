@@ -2,15 +2,14 @@
 use Prim.Native.Nat.{ℕ, ◌+◌, ◌-◌, ◌%◌, ◌^◌, ◌<◌, ◌≤◌}
 use mathlib.Core.List.{List, [], ◌∷◌}
 use mathlib.Core.Path.{◌≡◌, refl, ap, sym, ◌∙◌}
-use native.Mathlib.Nat.{add_comm, add_assoc, add-zero, zero-add, mod-eq_of_lt, mod-lt}
+use native.Mathlib.Nat.{add_comm, add_assoc, add-zero, mod-eq_of_lt, mod-lt}
 use native.Mathlib.Omega.{arith}
-use Rattle.table.proofs.Lists.{zero_one}
 use Rattle.splice_time.specs.Time.{ticks, adjusted_of}
 use Rattle.splice_time.proofs.Times.{adjust_at}
 use Rattle.splice_time.specs.declared.SpliceTime.{SpliceTime}
 use Rattle.splice_time.specs.declared.SpliceTime.TheVariants.{Immediate, Unspecified, At}
 use Rattle.splice_time.specs.declared.AdjustedTime.{AdjustedTime}
-use Rattle.adjust.specs.Adjust.{moved_by, adjust_of, chain_of, undo_of, number_of, number_in}
+use Rattle.adjust.specs.Adjust.{moved_by, adjust_of, chain_of, undo_of, number_of}
 use Rattle.adjust.specs.Chains.{and_then, through, sum, Each33, Reordered}
 use Rattle.adjust.specs.declared.Moved.{Moved}
 use Rattle.adjust.specs.declared.Adjustment.{Adjustment}

@@ -1,5 +1,5 @@
 -- 02, Q-12: adjustments in a chain. Times and adjustments are numbers below 8,589,934,592, and sums of them are taken modulo that number (Q-2).
-use Rattle.std.specs.Prelude.{ℕ, ◌+◌, ◌-◌, ◌%◌, ◌^◌, ◌&&◌, ltb}
+use Rattle.std.specs.Prelude.{ℕ, ◌+◌, ◌-◌, ◌%◌, ◌^◌, ltb}
 use Rattle.table.specs.Bits.{pick}
 use Rattle.splice_time.specs.Time.{ticks}
 use Rattle.splice_time.specs.declared.SpliceTime.{SpliceTime}

@@ -1,6 +1,5 @@
 -- What the theorems on chains speak of: an adjustment after another, a chain of any length, and the orders of one.
 use Rattle.std.specs.Prelude.{ℕ, ◌+◌, ◌^◌, ◌<◌, List, [], ◌∷◌}
-use Rattle.splice_time.specs.declared.SpliceTime.{SpliceTime}
 use Rattle.adjust.specs.Adjust.{adjust_of}
 use Rattle.adjust.specs.declared.Moved.{Moved}
 

@@ -1,13 +1,13 @@
 -- The parts of a section with another pts_adjustment: its length, its bytes and its bits.
-use Prim.Native.Nat.{ℕ, suc, ◌+◌, ◌*◌, ◌-◌, ◌/◌, ◌%◌, ◌^◌, ◌<◌, ◌≤◌}
-use mathlib.Core.List.{List, [], ◌∷◌, ◌++◌, append_assoc}
+use Prim.Native.Nat.{ℕ, suc, ◌+◌, ◌*◌, ◌-◌, ◌/◌, ◌^◌, ◌<◌, ◌≤◌}
+use mathlib.Core.List.{List, ◌∷◌, ◌++◌, append_assoc}
 use mathlib.Core.Path.{◌≡◌, refl, ap, ap₂, sym, ◌∙◌}
 use native.Mathlib.Omega.{arith}
-use lib.ListN.{length, get_or, take, drop, length-append, length-take, length-drop, take-append-drop, get_or-append}
+use lib.ListN.{length, get_or, take, drop, length-append, length-drop, take-append-drop, get_or-append}
 use lib.Seq.{length-take-le, take-append-le, drop-append-le, drop_at, drop-drop, drop-cons, get_or-drop, get_or-take}
 use Rattle.crc.specs.Crc.{crc_bytes_of}
-use Rattle.table.specs.Bits.{num, bits_of_num, bits_of, field, big_endian}
-use Rattle.table.proofs.Bits.{all_num, length_num, length_bits, bits_split, bits_join, bits_append, bits_from, bytes_num}
+use Rattle.table.specs.Bits.{num, bits_of_num, bits_of, field}
+use Rattle.table.proofs.Bits.{all_num, length_num, length_bits, bits_split, bits_join, bits_append, bytes_num}
 use Rattle.table.proofs.Fields.{bits_bytes, field_num}
 use Rattle.adjust_section.specs.Adjusted.{with_adjustment, body_with, section_with}
 

@@ -1,24 +1,23 @@
 -- A section with another pts_adjustment is accepted, and reads the same but for that.
-use Prim.Native.Nat.{ℕ, suc, ◌+◌, ◌*◌, ◌-◌, ◌%◌, ◌^◌, ◌<◌, ◌≤◌}
-use mathlib.Core.Bool.{Bool, true, false, not}
-use mathlib.Core.List.{List, [], ◌∷◌, ◌++◌}
+use Prim.Native.Nat.{ℕ, ◌+◌, ◌*◌, ◌-◌, ◌^◌, ◌<◌, ◌≤◌}
+use mathlib.Core.List.{List}
 use mathlib.Core.Path.{◌≡◌, refl, ap, ap₂, sym, ◌∙◌}
 use native.Mathlib.Omega.{arith}
-use lib.Dec.{eqb, ltb}
+use lib.Dec.{eqb}
 use lib.ListN.{length, get_or, take, drop, length-drop}
 use lib.Seq.{drop-drop}
 use borrow.Author.Tests.{ltb-false, le-leb, eqb-true, not-false}
 use Rattle.command.specs.Command.{command_of}
 use Rattle.command.specs.declared.CommandRead.{CommandRead}
-use Rattle.crc.specs.Crc.{crc_of, crc_bytes_of}
+use Rattle.crc.specs.Crc.{crc_of}
 use Rattle.crc.proofs.Laws.{crc_appended}
-use Rattle.header.specs.Header.{splice_header, header_read, header_of}
+use Rattle.header.specs.Header.{header_read, header_of}
 use Rattle.header.specs.declared.header.HeaderRead.{HeaderRead}
 use Rattle.header.specs.declared.header.SpliceInfoHeader.{SpliceInfoHeader}
 use Rattle.header.proofs.Headers.{header_got}
 use Rattle.names.specs.Algorithm.{algorithm_of}
 use Rattle.names.specs.Command.{command_type_of}
-use Rattle.section.specs.Section.{command_length, command_type, command_bytes, room_after, loop_length, loop_place, frame_in, loop_bytes, frame_of, moved_read, accepted, through, section_of, number_of, conditions, None}
+use Rattle.section.specs.Section.{command_length, command_type, command_bytes, room_after, loop_length, loop_place, frame_in, loop_bytes, frame_of, moved_read, accepted, through, section_of, conditions, None}
 use Rattle.section.specs.declared.FrameRead.{FrameRead}
 use Rattle.section.specs.declared.Section.{Section}
 use Rattle.section.specs.declared.SectionRead.{SectionRead}

@@ -1,22 +1,21 @@
 -- What the functions rest on: four stores as one; and the answer, case by case.
 use Prim.Native.Nat.{ℕ, ◌+◌, ◌*◌, ◌-◌, ◌/◌, ◌%◌, ◌^◌, ◌<◌, ◌≤◌}
 use mathlib.Core.List.{List, ◌++◌, append_assoc}
-use mathlib.Core.Path.{◌≡◌, refl, ap, ap₂, sym, ◌∙◌}
+use mathlib.Core.Path.{◌≡◌, refl, ap, sym, ◌∙◌}
 use native.Mathlib.Nat.{div-one}
 use native.Mathlib.Omega.{arith}
-use lib.Dec.{eqb, ltb}
 use lib.ListN.{length, get_or, take, drop, length-append}
 use lib.Seq.{take_at, length-take-le}
 use borrow.Author.Tests.{lt-ltb, le-ltb, ltb-false, eq-eqb, ne_eqb}
 use Rattle.crc.specs.Crc.{crc_of, crc_bytes_of}
 use Rattle.bit_stores.specs.Written.{answer_of, later_of}
 use Rattle.bit_stores.specs.declared.Written.{Written}
-use Rattle.bit_stores.proofs.Writes.{refused_answer, short_answer, wrote_answer}
+use Rattle.bit_stores.proofs.Writes.{wrote_answer}
 use Rattle.section.specs.Section.{section_of, number_of}
 use Rattle.section.proofs.Acceptance.{none_holds}
-use Rattle.table.specs.Bits.{pick, bits_of, field, big_endian}
+use Rattle.table.specs.Bits.{bits_of, field, big_endian}
 use Rattle.table.specs.Lent.{stored}
-use Rattle.table.specs.Writing.{Made, made, refused}
+use Rattle.table.specs.Writing.{made, refused}
 use Rattle.table.proofs.Stores.{stored_fits, stored_append}
 use Rattle.adjust_section.specs.Adjusted.{adjustment_in, with_adjustment, body_with, section_with, adjusted_section}
 use Rattle.adjust_section.proofs.Parts.{behind, length_behind, length_body, length_section}

@@ -1,8 +1,8 @@
 -- 02, Q-12: the single box. What it makes of a section, and that a chain of boxes can be replaced by one.
-use Prim.Native.Nat.{ℕ, suc, ◌+◌, ◌*◌, ◌-◌, ◌/◌, ◌%◌, ◌^◌, ◌<◌, ◌≤◌}
-use mathlib.Core.Bool.{Bool, true, false, not}
+use Prim.Native.Nat.{ℕ, ◌+◌, ◌-◌, ◌%◌, ◌^◌, ◌<◌, ◌≤◌}
+use mathlib.Core.Bool.{Bool, true, false}
 use mathlib.Core.List.{List}
-use mathlib.Core.Path.{◌≡◌, refl, ap, ap₂, sym, ◌∙◌}
+use mathlib.Core.Path.{◌≡◌, refl, ap, sym, ◌∙◌}
 use native.Mathlib.Nat.{add-zero, add_comm, add_assoc, mod-eq_of_lt, mod-lt}
 use native.Mathlib.Omega.{arith}
 use lib.Dec.{eqb, ltb}
@@ -21,7 +21,7 @@ use Rattle.table.specs.Writing.{Made, made, refused}
 use Rattle.table.proofs.Lists.{zero_one}
 use Rattle.table.proofs.Reading.{field_lt}
 use Rattle.adjust_section.specs.Adjusted.{adjustment_in, section_with, adjusted_section}
-use Rattle.adjust_section.specs.Readings.{header_with, reading_with, and_then}
+use Rattle.adjust_section.specs.Readings.{reading_with, and_then}
 use Rattle.adjust_section.proofs.Parts.{length_section, front_same, moved_is, byte_kept, first_kept}
 use Rattle.adjust_section.proofs.Stored.{is_refused, is_made, sizes}
 use Rattle.adjust_section.proofs.Stays.{reads_again, adjustment_is, loop_stays, command_stays}

@@ -1,5 +1,5 @@
 -- What the theorems on the single box speak of: a reading with another pts_adjustment, and a box behind another.
-use Rattle.std.specs.Prelude.{ℕ, List}
+use Rattle.std.specs.Prelude.{ℕ}
 use Rattle.header.specs.declared.header.SpliceInfoHeader.{SpliceInfoHeader}
 use Rattle.section.specs.declared.Section.{Section}
 use Rattle.table.specs.Writing.{Made, made, refused}

@@ -1,14 +1,14 @@
 -- The cutting by places of a line: what the code tests, and what the definition says.
-use Prim.Native.Nat.{ℕ, ◌+◌, ◌-◌, ◌%◌, ◌≤◌, ◌<◌}
-use mathlib.Core.Bool.{Bool, true, false, not, ◌&&◌, ◌||◌, and-false}
+use Prim.Native.Nat.{ℕ, ◌+◌, ◌-◌, ◌≤◌, ◌<◌}
+use mathlib.Core.Bool.{Bool, true, false, not, ◌&&◌}
 use mathlib.Core.List.{List}
 use mathlib.Core.Path.{◌≡◌, refl, ap, sym, ◌∙◌}
 use native.Mathlib.Omega.{arith}
 use native.Mathlib.Nat.{add-zero}
-use lib.Dec.{leb, ltb, eqb}
-use lib.ListN.{length, drop, get_or, length-drop, get_or-eq_default}
+use lib.Dec.{eqb}
+use lib.ListN.{length, drop, get_or, get_or-eq_default}
 use lib.Seq.{get_or-drop, drop-drop}
-use borrow.Author.Tests.{le-leb, lt-leb, lt-ltb, le-ltb, eq-eqb, ne_eqb, leb-true, leb-false}
+use borrow.Author.Tests.{eq-eqb, ne_eqb}
 use Rattle.table.specs.Bits.{pick}
 use Rattle.attribute_list.specs.Grammar.{name_byte, quoted_byte, plain_byte}
 use Rattle.attribute_list.specs.Cutting.{span, closed, quoted_of, plain_of, cut_of}

@@ -20,7 +20,7 @@ use Rattle.table.specs.Lent.{stored}
 use Rattle.table.proofs.Bits.{AllBits, all_append, all_num, all_bits, all_take, all_drop, length_num, length_bits, length_bytes_n, bits_append, bits_from, bits_split, bits_join, bytes_bits, bytes_num, bytes_append}
 use Rattle.table.proofs.Fields.{bits_bytes}
 use Rattle.table.proofs.Lists.{append_nil}
-use Rattle.table.proofs.Stores.{stored_fits, stored_none}
+use Rattle.table.proofs.Stores.{stored_fits}
 use Rattle.bit_stores.specs.Pen.{penned}
 
 -- ---- where there is room, and where there is none

@@ -15,7 +15,7 @@ use Rattle.table.proofs.Bits.{all_num, length_num, length_bits, length_big_endia
 use Rattle.table.proofs.Reading.{mask}
 use Rattle.table.proofs.Steppings.{Settled}
 use Rattle.bit_stores.specs.Pen.{penned, pen_after, Pens}
-use Rattle.bit_stores.proofs.Penned.{length_penned, penned_none, penned_append, penned_byte, penned_stored, low_bits, mixed_lt, bits_number, all_number}
+use Rattle.bit_stores.proofs.Penned.{penned_none, penned_append, penned_byte, penned_stored, low_bits, mixed_lt, bits_number, all_number}
 use borrow.Author.Tests.{le-leb, lt-leb}
 
 -- no bit stands above the 64th

@@ -1,17 +1,15 @@
 -- What a writer answers and leaves, case by case.
 --     refused, short, wrote     the answer
 --     kept-.., later-..         the target's later bytes
-use Prim.Native.Nat.{ℕ, ◌+◌, ◌*◌, ◌<◌, ◌≤◌}
-use mathlib.Core.List.{List, [], ◌++◌}
-use mathlib.Core.Path.{◌≡◌, refl, ap, sym, ◌∙◌}
+use Prim.Native.Nat.{ℕ, ◌<◌, ◌≤◌}
+use mathlib.Core.List.{List, ◌++◌}
+use mathlib.Core.Path.{◌≡◌, refl, ap, ◌∙◌}
 use native.Mathlib.Nat.{zero-add}
 use native.Mathlib.Omega.{arith}
 use lib.ListN.{length, drop}
 use borrow.Author.Tests.{le-leb, lt-leb}
-use Rattle.table.specs.Bits.{bytes_of, AllBytes}
 use Rattle.table.specs.Lent.{stored}
 use Rattle.table.specs.Writing.{Made, made, refused}
-use Rattle.table.proofs.Lists.{zero_one}
 use Rattle.table.proofs.Stores.{stored_fits}
 use Rattle.bit_stores.specs.Written.{answer_of, later_of, refusal_in, bytes_in}
 use Rattle.bit_stores.specs.declared.Written.{Written}

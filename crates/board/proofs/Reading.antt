@@ -1,8 +1,6 @@
 -- A board and the list that it reads as answer the same, and read as one another after every call.
-use Rattle.std.proofs.Common.{◌≡◌, ℕ, zero, suc, ◌+◌, ◌<◌, ◌≤◌, Bool, true, false, leb, List, [], ◌∷◌, ◌++◌, length, get_or, set, sym, refl, ap, ◌∙◌, arith, length-append, length-set, le-leb, leb-false}
-use lib.ListN.{length-replicate}
-use borrow.Author.Tests.{lt-leb}
-use Rattle.board.specs.Breaks.{Break, Breaks, no_breaks, under, is_open, provider_of, without, free_from, after, opened, closed}
+use Rattle.std.proofs.Common.{◌≡◌, ℕ, zero, suc, ◌<◌, Bool, true, false, leb, List, [], ◌∷◌, ◌++◌, length, get_or, set, sym, refl, ◌∙◌, arith, length-append, length-set, leb-false}
+use Rattle.board.specs.Breaks.{Break, Breaks, no_breaks, under, is_open, without, free_from, after, opened, closed}
 use Rattle.board.specs.Board.{blank_place, taken_by, empty_board, is_free, holds, before, breaks_of, open_of, close_of}
 use Rattle.board.specs.Runs.{Call, step_of, told_of}
 use Rattle.board.specs.Runs.Call.{opening, closing}

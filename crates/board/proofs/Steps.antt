@@ -1,5 +1,5 @@
 -- Each answer of the two calls by the place that was found.
-use Rattle.std.proofs.Common.{◌≡◌, ℕ, ◌<◌, ◌≤◌, length, get_or, set, sym, refl, ◌∙◌, arith, lt-ltb, le-leb}
+use Rattle.std.proofs.Common.{◌≡◌, ℕ, ◌<◌, ◌≤◌, length, get_or, set, arith, lt-ltb, le-leb}
 use borrow.Author.Tests.{lt-leb}
 use Rattle.board.specs.Breaks.{free_from, after}
 use Rattle.board.specs.Board.{blank_place, taken_by, is_free, holds, before, breaks_of, as_found, open_of, close_of}
@@ -7,7 +7,6 @@ use Rattle.board.specs.declared.Answer.TheVariants.{Is}
 use Rattle.board.specs.declared.Refusal.TheVariants.{BoardFull, NotOpen}
 use Rattle.board.specs.declared.Place.{Place}
 use Rattle.board.specs.declared.Board.{Board}
-use Rattle.board.specs.declared.Step.{Step}
 use Rattle.board.proofs.Places.{none_free, some_free, none_holds, some_holds}
 
 module _ (b : Board) where

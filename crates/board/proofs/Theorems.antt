@@ -1,25 +1,24 @@
 -- What Q-7 asks for, of the functions' contracts as the checker makes them.
-use Rattle.std.proofs.Common.{subst, ◌≡◌, ℕ, suc, ◌+◌, ◌%◌, ◌<◌, ◌≤◌, Bool, true, false, not, ◌&&◌, eqb, leb, List, [], ◌∷◌, ◌++◌, length, get_or, set, sym, refl, ap, ◌∙◌, ap₂, append-nil, arith, length-set, eq-eqb, ne_eqb, le-leb, leb-false, leb-true}
+use Rattle.std.proofs.Common.{subst, ◌≡◌, ℕ, suc, ◌<◌, ◌≤◌, Bool, true, false, not, ◌&&◌, eqb, leb, List, [], ◌∷◌, ◌++◌, length, get_or, set, sym, refl, ap, ◌∙◌, ap₂, append-nil, arith, length-set, eq-eqb, ne_eqb, le-leb, leb-false, leb-true}
 use borrow.Author.Tests.{lt-leb}
 use contract.Lifetimes.{Lfts}
-use Rattle.board.specs.Breaks.{Break, Breaks, no_breaks, under, is_open, provider_of, free_from, after}
-use Rattle.board.specs.Board.{blank_place, taken_by, empty_board, is_free, holds, before, breaks_of, as_found, open_of, close_of}
+use Rattle.board.specs.Breaks.{Break, Breaks, no_breaks, under, is_open, free_from}
+use Rattle.board.specs.Board.{blank_place, taken_by, is_free, before, breaks_of, as_found, open_of, close_of}
 use Rattle.board.specs.Runs.{Call, step_of, told_of, list_answers}
 use Rattle.board.specs.Runs.Call.{opening, closing}
 use Rattle.board.specs.Calls.{Typed, held, Given, Opened, Closed, Run, leaves}
 use Rattle.board.specs.Calls.Run.{nothing, then}
 use Rattle.board.specs.declared.Answer.{Answer}
 use Rattle.board.specs.declared.Answer.TheVariants.{Is, Refused}
-use Rattle.board.specs.declared.Refusal.{Refusal}
 use Rattle.board.specs.declared.Refusal.TheVariants.{BoardFull, NotOpen}
 use Rattle.board.specs.declared.Board.{Board}
 use Rattle.board.specs.declared.Step.{Step}
 use Rattle.board.proofs.empty.Reads as empty
 use Rattle.board.proofs.open_break.Reads as open_break
 use Rattle.board.proofs.close_break.Reads as close_break
-use Rattle.board.proofs.Lists.{nothing_under, under_without, length_without}
+use Rattle.board.proofs.Lists.{under_without, length_without}
 use Rattle.board.proofs.Places.{has_free, first_free, closed_place, broken, opened_many, opened_each}
-use Rattle.board.proofs.Fresh.{onward, Search, searched, few_passed, given_free, after_fits}
+use Rattle.board.proofs.Fresh.{Search, searched, few_passed, given_free, after_fits}
 use Rattle.board.proofs.Reading.{Reads, Agrees, call_agrees, empty_reads}
 
 -- ---- what the contracts allow

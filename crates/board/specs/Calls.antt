@@ -1,5 +1,5 @@
 -- What an opening and a closing do on any board, and calls one after the other, as the contracts of the functions allow them.
-use Rattle.std.specs.Prelude.{◌≡◌, ℕ, suc, ◌+◌, ◌%◌, ◌<◌, ◌≤◌, Bool, true, false, cond as pick, not, ◌&&◌, List, [], ◌∷◌, ◌++◌, length, drop, ◌==◌}
+use Rattle.std.specs.Prelude.{◌≡◌, ℕ, suc, ◌+◌, ◌%◌, ◌<◌, ◌≤◌, Bool, true, false, not, ◌&&◌, List, [], ◌∷◌, length, drop, ◌==◌}
 use Rattle.board.specs.Breaks.{Break, under, is_open, provider_of, after}
 use Rattle.board.specs.Board.{breaks_of}
 use Rattle.board.specs.Runs.{Call}

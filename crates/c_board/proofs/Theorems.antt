@@ -1,12 +1,12 @@
 -- A board is found again in its words, and so over any calls over C the answers are those of two plain lists.
 use Prim.Native.Nat.{ℕ, zero, suc, ◌+◌, ◌*◌, ◌/◌, ◌%◌, ◌≤◌, ◌<◌}
 use mathlib.Core.Bool.{Bool, true, false, ◌||◌, cond as pick}
-use mathlib.Core.List.{List, [], ◌∷◌, ◌++◌, map}
+use mathlib.Core.List.{List, [], ◌∷◌, map}
 use mathlib.Core.Path.{◌≡◌, refl, sym, ◌∙◌, ap, ap₂}
 use native.Mathlib.Nat.{zero-add}
 use native.Mathlib.Omega.{arith}
 use lib.Dec.{leb, eqb}
-use lib.ListN.{length, length-append, length-set, get_or, get_or-append, set, drop, replicate, get_or-replicate}
+use lib.ListN.{length, length-append, length-set, get_or, get_or-append, set, drop, replicate}
 use borrow.Author.Tests.{le-ltb, leb-false}
 use Rattle.board.specs.Breaks.{Breaks, is_open}
 use Rattle.board.specs.Board.{blank_place, breaks_of}
@@ -16,13 +16,11 @@ use Rattle.board.specs.declared.Place.{Place}
 use Rattle.board.proofs.Fresh.{after_fits}
 use Rattle.channels.specs.Channels.{refusal_of, empty_shared, breaks_by, no_channel, open_of, close_of}
 use Rattle.channels.specs.Runs.{On, turn_by, turn_of, no_lists, said_of, list_replies}
-use Rattle.channels.specs.declared.Reply.{Reply}
 use Rattle.channels.specs.declared.SharedBoard.{SharedBoard}
-use Rattle.channels.specs.declared.Turn.{Turn}
 use Rattle.channels.proofs.Reading.{Reads, Agrees, turn_agrees, empty_reads}
-use Rattle.c_board.specs.Words.{listed, place_given, places_given, whose_given, board_given, ids_word, mark_word, word_of, word_at, words_of, stored}
-use Rattle.c_board.specs.Lent.{Lent, id_of, flat_reply, settled, emptied, opened, closed}
-use Rattle.c_board.specs.Calls.{lent_by, lent_of, lent_answers, TypedCall, Typed}
+use Rattle.c_board.specs.Words.{listed, place_given, places_given, whose_given, board_given, ids_word, mark_word, word_at, words_of, stored}
+use Rattle.c_board.specs.Lent.{flat_reply, settled, emptied, opened, closed}
+use Rattle.c_board.specs.Calls.{lent_by, lent_answers, TypedCall, Typed}
 use Rattle.c_board.specs.declared.FlatBoardAnswer.{FlatBoardAnswer}
 use Rattle.c_board.proofs.Words.{length_listed, listed_again, ids_of, mark_of, next_of, word_there}
 

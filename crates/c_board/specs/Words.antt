@@ -1,7 +1,7 @@
 -- A board of two channels in words.
 -- 66 words: the ids of each of 32 places, 32 marks (taken or not, and above that the channel), the next id of each channel. Every run of 66 words is a
 -- board: what lies above a mark's channel and above 32 bits of a next id is not looked at.
-use Rattle.std.specs.Prelude.{ℕ, zero, suc, ◌+◌, ◌-◌, ◌*◌, ◌/◌, ◌%◌, Bool, cond as pick, List, [], ◌∷◌, ◌++◌, ltb, eqb, get_or, drop}
+use Rattle.std.specs.Prelude.{ℕ, zero, suc, ◌+◌, ◌*◌, ◌/◌, ◌%◌, cond as pick, List, [], ◌∷◌, ◌++◌, ltb, eqb, get_or, drop}
 use Rattle.board.specs.Board.{blank_place}
 use Rattle.board.specs.declared.Place.{Place}
 use Rattle.channels.specs.declared.SharedBoard.{SharedBoard}

@@ -2,7 +2,6 @@
 -- `command_answers_are_one` fix what they answer (CommandWords.antt).
 use Rattle.std.specs.Prelude.{ℕ, ◌^◌, ◌%◌, Bool, ◌&&◌, List, eqb}
 use Rattle.command.specs.Command.{array, count_in}
-use Rattle.command.specs.declared.Private.{Private}
 use Rattle.command.specs.declared.SpliceCommand.{SpliceCommand}
 use Rattle.command.specs.declared.SpliceCommand.TheVariants as command
 use Rattle.command.specs.declared.components.InsertComponent.{InsertComponent}
@@ -10,7 +9,6 @@ use Rattle.splice_time.specs.declared.break_duration.Break.{Break}
 use Rattle.splice_time.specs.declared.break_duration.Break.TheVariants.{Absent, Lasts}
 use Rattle.command.specs.declared.insert.InsertDetail.{InsertDetail}
 use Rattle.command.specs.declared.insert.SpliceInsert.{SpliceInsert}
-use Rattle.command.specs.declared.insert.SpliceDetail.{SpliceDetail}
 use Rattle.command.specs.declared.insert.SpliceDetail.TheVariants as insert
 use Rattle.command.specs.declared.insert.SpliceMode.{SpliceMode}
 use Rattle.command.specs.declared.insert.SpliceMode.TheVariants.{Program, Components}

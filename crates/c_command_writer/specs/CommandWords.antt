@@ -11,7 +11,6 @@ use Rattle.c_section.specs.declared.components.FlatInsertComponent.{FlatInsertCo
 use Rattle.table.specs.Bits.{pick}
 use Rattle.table.specs.Lent.{lies_in}
 use Rattle.table.specs.Writing.{Made, refused}
-use Rattle.table.specs.declared.View.{View}
 use Rattle.c_command_writer.specs.Words.{word, within, same, each_place}
 
 -- ---- struct scte35_command: its words, and the width of each

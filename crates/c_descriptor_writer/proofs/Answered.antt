@@ -17,7 +17,6 @@ use Rattle.descriptor.specs.declared.Descriptor.{Descriptor}
 use Rattle.descriptor.specs.declared.plain.TimeDescriptor.{TimeDescriptor}
 use Rattle.descriptor.specs.declared.segmentation.DeliveryRestrictionFlags.{DeliveryRestrictionFlags}
 use Rattle.descriptor.specs.declared.segmentation.SegmentationComponent.{SegmentationComponent}
-use Rattle.descriptor.specs.declared.segmentation.SegmentationDescriptor.{SegmentationDescriptor}
 use Rattle.descriptor.specs.declared.segmentation.DescriptorDetail.{DescriptorDetail}
 use Rattle.descriptor.specs.declared.segmentation.SegmentationDuration.{SegmentationDuration}
 use Rattle.descriptor.specs.declared.segmentation.SegmentationDetail.{SegmentationDetail}
@@ -30,7 +29,7 @@ use Rattle.c_items.specs.FlatItem.{flat_descriptor, segmentation_item}
 use Rattle.c_items.specs.declared.segmentations.FlatSegmentation.{FlatSegmentation}
 use Rattle.c_command_writer.proofs.Words.{and_unit, places_length}
 use Rattle.c_command_writer.proofs.Given.{same_at}
-use Rattle.c_command_writer.specs.Words.{within, same, places_of, each_place, refusal_of, seen_first, no_less}
+use Rattle.c_command_writer.specs.Words.{within, places_of, each_place, refusal_of, seen_first, no_less}
 use Rattle.names.proofs.Segmentations.{segmentation_laws}
 use Rattle.table.proofs.Lists.{and_true, zero_one}
 use Rattle.table.specs.Bits.{pick}

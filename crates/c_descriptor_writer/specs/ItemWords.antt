@@ -5,7 +5,6 @@ use Rattle.descriptor.specs.Segmentation.{writable_detail}
 use Rattle.descriptor.specs.Full.{filled, of_segmentation}
 use Rattle.descriptor.specs.declared.Descriptor.{Descriptor}
 use Rattle.descriptor.specs.declared.segmentation.SegmentationComponent.{SegmentationComponent}
-use Rattle.descriptor.specs.declared.segmentation.SegmentationDescriptor.{SegmentationDescriptor}
 use Rattle.descriptor.specs.declared.full.Beside.{Beside}
 use Rattle.descriptor_measure.specs.Writing.{count_beside, descriptor_made}
 use Rattle.c_items.specs.FlatItem.{flat_descriptor}
@@ -14,7 +13,6 @@ use Rattle.c_command_writer.specs.Words.{word, within, same, each_place}
 use Rattle.table.specs.Bits.{pick, big_endian}
 use Rattle.table.specs.Lent.{lies_in}
 use Rattle.table.specs.Writing.{Made, refused}
-use Rattle.table.specs.declared.View.{View}
 
 -- ---- struct scte35_step: after refusal, values and next, which are not looked at, the identifier is word 5, and the item begins with word 6
 unfoldable pub item_words : FlatItem → List ℕ

@@ -1,11 +1,11 @@
 -- An array filled from its first place on with the elements of a list, of which it holds as many.
 use Prim.Native.Nat.{ℕ, ◌+◌, ◌≤◌, ◌<◌}
-use mathlib.Core.Path.{◌≡◌, refl, sym, ap, ◌∙◌}
+use mathlib.Core.Path.{◌≡◌, sym, ap, ◌∙◌}
 use mathlib.Core.List.{List, append-nil, map}
 use native.Mathlib.Nat.{zero-add}
 use native.Mathlib.Numerals.{add-one}
 use native.Mathlib.Omega.{arith}
-use lib.ListN.{length, length-map, get_or-map, take, drop, drop_of_length-le, set, get_or}
+use lib.ListN.{length, length-map, get_or-map, drop_of_length-le, set, get_or}
 use lib.Seq.{paste, paste-suc, take_all}
 
 -- one element more

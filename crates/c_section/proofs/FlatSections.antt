@@ -16,7 +16,7 @@ use Rattle.section.specs.declared.Frame.{Frame}
 use Rattle.section.specs.declared.FrameRead.{FrameRead}
 use Rattle.section.specs.declared.Refusal.{Refusal}
 use Rattle.section.specs.declared.SectionRead.{SectionRead}
-use Rattle.section.proofs.Framing.{Framed, framed, is_accepted, section_is, command_read, command_at, header_at}
+use Rattle.section.proofs.Framing.{framed, is_accepted, section_is, command_read, command_at, header_at}
 use Rattle.c_section.specs.Flat.{flat_header, flat_header_read}
 use Rattle.c_section.specs.FlatSection.{flat_parts, flat_section_read}
 use Rattle.c_section.specs.declared.headers.FlatHeader.{FlatHeader}

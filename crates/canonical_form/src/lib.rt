@@ -1,3 +1,2 @@
 // The canonical form and equal readings: definitions.
 #![tactic(auto)]
-

@@ -1,26 +1,23 @@
 -- A shared board and the two lists that it reads as answer the same, and read as one another after every call.
-use Rattle.std.proofs.Common.{◌≡◌, ℕ, zero, suc, ◌+◌, ◌<◌, ◌≤◌, Bool, true, false, cond as pick, eqb, leb, List, [], ◌∷◌, ◌++◌, length, get_or, set, replicate, sym, refl, ap, ◌∙◌, arith, length-append, length-set, get_or-set_other, get_or-set_same, eq-eqb, ne_eqb, eqb-true, le-leb, leb-false, leb-true}
+use Rattle.std.proofs.Common.{◌≡◌, ℕ, zero, suc, ◌+◌, ◌<◌, ◌≤◌, Bool, true, false, eqb, leb, [], ◌∷◌, ◌++◌, length, get_or, set, replicate, sym, refl, ◌∙◌, arith, length-append, length-set, get_or-set_other, get_or-set_same, eq-eqb, ne_eqb, leb-false, leb-true}
 use lib.ListN.{get_or-replicate}
 use borrow.Author.Tests.{lt-leb, eqb-false}
-use Rattle.board.specs.Breaks.{Break, Breaks, Told, no_breaks, under, is_open, provider_of, without, free_from, after, opened, closed}
+use Rattle.board.specs.Breaks.{Breaks, under, is_open, without, free_from, after, opened, closed}
 use Rattle.board.specs.Board.{blank_place, taken_by, is_free, holds, before, breaks_of}
 use Rattle.board.specs.Runs.{Call, told_of}
 use Rattle.board.specs.Runs.Call.{opening, closing}
-use Rattle.board.specs.declared.Answer.{Answer}
-use Rattle.board.specs.declared.Answer.TheVariants as answer
-use Rattle.board.specs.declared.Place.{Place}
 use Rattle.board.proofs.Places.{has_free, first_free, has_held, first_held, free_kept, closed_many, opened_many, broken}
 use Rattle.board.proofs.Lists.{length_without}
 use Rattle.board.proofs.Fresh.{after_fits, given_free}
 use Rattle.board.proofs.Reading.{Same, same_free, same_opened, same_closed}
 use Rattle.channels.specs.Channels.{empty_shared, seen_as, seen_by, breaks_by, no_channel, open_of, close_of}
-use Rattle.channels.specs.Runs.{On, turn_by, turn_of, no_lists, with_list, Said, said_of}
+use Rattle.channels.specs.Runs.{On, turn_by, turn_of, no_lists, with_list, said_of}
 use Rattle.channels.specs.declared.Reply.{Reply}
 use Rattle.channels.specs.declared.Reply.TheVariants.{NoSuchChannel, Is}
 use Rattle.channels.specs.declared.SharedBoard.{SharedBoard}
 use Rattle.channels.specs.declared.Turn.{Turn}
 use Rattle.channels.proofs.Views.{seen_length, seen_at, seen_set, seen_blank, seen_used, seen_free}
-use Rattle.channels.proofs.Lists.{each, kept, both, one_more, one_less, room_for_both}
+use Rattle.channels.proofs.Lists.{each, kept, one_more, one_less, room_for_both}
 use Rattle.channels.proofs.Turns.{open_none, open_full, open_given, close_none}
 
 -- ---- how a shared board reads as two lists: "Q-7's list reads as two lists from then on"

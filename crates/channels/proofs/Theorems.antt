@@ -8,8 +8,8 @@ use Rattle.board.specs.Runs.{Call, told_of, list_answers}
 use Rattle.board.specs.Runs.Call.{opening, closing}
 use Rattle.board.specs.declared.Answer.TheVariants as answer
 use Rattle.board.specs.declared.Refusal.TheVariants.{BoardFull, NotOpen}
-use Rattle.channels.specs.Channels.{empty_shared, breaks_by, no_channel, as_found, open_of, close_of}
-use Rattle.channels.specs.Runs.{On, turn_by, turn_of, Run, no_lists, with_list, said_of, list_replies, asked_by, heard_by, alone}
+use Rattle.channels.specs.Channels.{breaks_by, no_channel, as_found, open_of, close_of}
+use Rattle.channels.specs.Runs.{On, turn_by, turn_of, Run, no_lists, said_of, list_replies, asked_by, heard_by, alone}
 use Rattle.channels.specs.Runs.Run.{nothing, then}
 use Rattle.channels.specs.declared.Reply.{Reply}
 use Rattle.channels.specs.declared.Reply.TheVariants.{NoSuchChannel, Is}

@@ -1,5 +1,5 @@
 -- Each reply of the two calls by what was found.
-use Rattle.std.proofs.Common.{◌≡◌, ℕ, ◌<◌, ◌≤◌, List, length, get_or, set, sym, refl, ◌∙◌, arith, lt-ltb, le-leb}
+use Rattle.std.proofs.Common.{◌≡◌, ℕ, ◌<◌, ◌≤◌, List, length, get_or, set, arith, lt-ltb, le-leb}
 use borrow.Author.Tests.{lt-leb}
 use Rattle.board.specs.Breaks.{free_from, after}
 use Rattle.board.specs.Board.{blank_place, taken_by, is_free, holds, before, breaks_of}
@@ -10,7 +10,6 @@ use Rattle.board.proofs.Places.{none_free, some_free, none_holds, some_holds}
 use Rattle.channels.specs.Channels.{seen_by, breaks_by, as_found, open_of, close_of}
 use Rattle.channels.specs.declared.Reply.TheVariants.{NoSuchChannel, Is}
 use Rattle.channels.specs.declared.SharedBoard.{SharedBoard}
-use Rattle.channels.specs.declared.Turn.{Turn}
 
 module _ (b : SharedBoard) (channel : ℕ) where
   pub open_none : (provider : ℕ) → 2 ≤ channel → open_of b channel provider ≡ as_found NoSuchChannel b

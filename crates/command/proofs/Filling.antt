@@ -1,5 +1,5 @@
 -- The components of an insert in their array.
-use Prim.Native.Nat.{ℕ, zero, suc, ◌+◌, ◌*◌, ◌-◌, ◌%◌, ◌^◌, ◌<◌, ◌≤◌}
+use Prim.Native.Nat.{ℕ, zero, suc, ◌+◌, ◌*◌, ◌-◌, ◌%◌, ◌^◌, ◌≤◌}
 use mathlib.Core.Bool.{Bool, true, false}
 use mathlib.Core.List.{List, [], ◌∷◌, ◌++◌}
 use mathlib.Core.Path.{◌≡◌, refl, ap, sym, subst, ◌∙◌}
@@ -12,7 +12,6 @@ use lib.Seq.{sets, sets-eq}
 use Rattle.table.specs.Bits.{pick, bits_of, field}
 use Rattle.table.specs.Table.{Table, done, inside, list, Answer, got, short, parse}
 use Rattle.table.specs.declared.cursor.Short.{Short}
-use Rattle.table.proofs.Lists.{zero_one}
 use Rattle.table.proofs.Reading.{bits_are}
 use Rattle.table.proofs.Steps.{onward, list_turn, list_short, list_none, reads_in, reads_number, reads_flag, reads_ones}
 use Rattle.command.specs.Command.{read, command_of, insert_count, array, components_in, components_of}

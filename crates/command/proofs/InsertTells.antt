@@ -1,10 +1,10 @@
 -- The table of an insert tells its fields: each is found again in a reading, which a writer accepts.
 use Prim.Native.Nat.{ℕ, zero, suc, ◌+◌, ◌%◌}
-use mathlib.Core.Bool.{Bool, true, false, not, ◌&&◌}
+use mathlib.Core.Bool.{Bool, true, false, ◌&&◌}
 use mathlib.Core.List.{List, [], ◌∷◌}
 use mathlib.Core.Path.{◌≡◌, refl, ap, sym, ◌∙◌}
 use native.Mathlib.Omega.{arith}
-use lib.Dec.{ltb, eqb}
+use lib.Dec.{ltb}
 use lib.ListN.{length, get_or}
 use borrow.Author.Tests.{lt-ltb}
 use Rattle.splice_time.specs.Break.{lasting, break_duration}

@@ -1,7 +1,7 @@
 -- What the reader of a payload by its type answers.
-use Prim.Native.Nat.{ℕ, ◌+◌, ◌*◌, ◌-◌, ◌/◌, ◌%◌, ◌^◌, ◌<◌, ◌≤◌}
+use Prim.Native.Nat.{ℕ, ◌*◌, ◌-◌, ◌/◌, ◌%◌, ◌^◌, ◌<◌, ◌≤◌}
 use mathlib.Core.Bool.{Bool, true, false}
-use mathlib.Core.List.{List, [], ◌∷◌}
+use mathlib.Core.List.{List}
 use mathlib.Core.Path.{◌≡◌, refl, ap, sym, ◌∙◌}
 use native.Mathlib.Omega.{arith}
 use lib.Dec.{eqb}
@@ -13,7 +13,7 @@ use Rattle.splice_time.specs.declared.TimeRead.{TimeRead}
 use Rattle.splice_time.specs.declared.Timed.{Timed}
 use Rattle.splice_time.proofs.Times.{timed_got, timed_lacks}
 use Rattle.table.specs.Bits.{pick, bits_of, field}
-use Rattle.table.specs.Table.{done, number, Answer, got, short, parse}
+use Rattle.table.specs.Table.{Answer, got, short, parse}
 use Rattle.table.specs.declared.cursor.Short.{Short}
 use Rattle.table.proofs.Lists.{zero_one}
 use Rattle.table.proofs.Reading.{bits_are}

@@ -1,5 +1,5 @@
 -- splice_insert(). 01, "Commands".
-use Rattle.std.specs.Prelude.{ℕ, Bool, true, false, ◌&&◌, List, [], ◌∷◌, ltb, eqb, get_or}
+use Rattle.std.specs.Prelude.{ℕ, Bool, true, false, ◌&&◌, List, [], ltb, eqb, get_or}
 use Rattle.splice_time.specs.Break.{lasting, break_duration}
 use Rattle.splice_time.specs.Time.{splice_time}
 pub use Rattle.splice_time.specs.Time.{immediate}

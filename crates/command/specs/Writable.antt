@@ -1,5 +1,5 @@
 -- What a writer of an insert accepts. 01, refusal 33: "insert reserved other than 127; mixed immediate and timed components".
-use Rattle.std.specs.Prelude.{ℕ, Bool, true, false, not, ◌&&◌, List, [], ◌∷◌, eqb, get_or}
+use Rattle.std.specs.Prelude.{Bool, true, not, ◌&&◌, List, [], ◌∷◌, eqb, get_or}
 use Rattle.table.specs.Bits.{pick}
 use Rattle.command.specs.Insert.{WithComponents, immediate, blank}
 use Rattle.command.specs.declared.components.InsertComponent.{InsertComponent}

@@ -13,7 +13,7 @@ use lib.ListN.{length, get_or, drop}
 use borrow.Author.Tests.{eq-eqb, ne_eqb, eqb-true, eqb-false}
 use Rattle.table.specs.Bits.{bits_of, field}
 use Rattle.table.specs.Table.{Table, done, must, inside, number, bit, reserved, list, uimsbf, flag, ones, Answer, got, short, parse, canonical, takes_all, canonical_by}
-use Rattle.table.proofs.Steps.{takes_number, takes_flag, takes_ones, reads_number, reads_flag, reads_ones, takes_in, reads_in, Reads, canonical_inside}
+use Rattle.table.proofs.Steps.{takes_number, takes_flag, takes_ones, reads_number, reads_flag, reads_ones, takes_in, reads_in, canonical_inside}
 use Rattle.command_canonical.specs.Private.{Stands, Fails, Told, exact}
 use Rattle.command_canonical.specs.declared.Form.{Form}
 

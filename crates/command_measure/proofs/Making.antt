@@ -2,11 +2,11 @@
 use Prim.Native.Nat.{ℕ, zero, suc, ◌+◌, ◌*◌, ◌/◌, ◌^◌, ◌<◌, ◌≤◌}
 use mathlib.Core.Bool.{Bool, true, false, not, ◌&&◌}
 use mathlib.Core.List.{List, [], ◌∷◌, ◌++◌}
-use mathlib.Core.Logic.{◌⊎◌, ⊎_elim}
+use mathlib.Core.Logic.{⊎_elim}
 use mathlib.Core.Path.{◌≡◌, refl, ap, ap₂, sym, ◌∙◌}
 use native.Mathlib.Nat.{zero-add}
 use native.Mathlib.Omega.{arith}
-use lib.Dec.{ltb, leb, eqb}
+use lib.Dec.{ltb, eqb}
 use lib.ListN.{length, take, get_or, replicate}
 use lib.Seq.{length-take-le, get_or-take}
 use denote.Enum.Declared.{tag_of}
@@ -38,7 +38,7 @@ use Rattle.table.specs.Writing.{Content, Field, bits, run, rest, walk, seen, wit
 use Rattle.table.proofs.Bits.{length_bytes_n}
 use Rattle.table.proofs.Lists.{and_assoc, and_true}
 use Rattle.table.proofs.Walks.{past, past_append, print_length}
-use Rattle.command_measure.specs.Fields.{ink, time_fields, unless_fields, component_fields, list_fields, mode_fields, break_fields, automatic, tail_fields, end_fields, immediate_in, flag_fields, insert_flags, active_fields, insert_fields}
+use Rattle.command_measure.specs.Fields.{ink, time_fields, unless_fields, list_fields, mode_fields, break_fields, automatic, tail_fields, end_fields, immediate_in, active_fields, insert_fields}
 use Rattle.command_measure.specs.Made.{counted, times_fit, insert_made, command_made, measured_of}
 use Rattle.command_measure.specs.Survey.{time_bytes, adding, surveyed, blanks_of, mode_bytes, break_bytes, measured, active_measured}
 use Rattle.command_measure.specs.declared.Measured.{Measured}

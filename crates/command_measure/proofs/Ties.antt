@@ -1,10 +1,10 @@
 -- What an insert has in the fields of its table, spelt out.
-use Prim.Native.Nat.{ℕ, zero, suc, ◌+◌, ◌*◌}
+use Prim.Native.Nat.{ℕ, ◌+◌}
 use mathlib.Core.Bool.{Bool, true, false}
-use mathlib.Core.List.{List, [], ◌∷◌, ◌++◌, append_assoc}
+use mathlib.Core.List.{List, [], ◌∷◌, ◌++◌}
 use mathlib.Core.Path.{◌≡◌, refl, ap, ap₂, sym, ◌∙◌}
 use lib.ListN.{length, get_or, drop}
-use Rattle.command.specs.Insert.{WithComponents, time_unless, component, blank, by_program, count, all_immediate, moded, out_of_network, mode_of, ending, active, cancelled, insert_of, active_of, insert}
+use Rattle.command.specs.Insert.{WithComponents, time_unless, component, blank, by_program, count, moded, out_of_network, mode_of, ending, active, insert_of, active_of, insert}
 use Rattle.splice_time.specs.Break.{lasting, break_duration}
 use Rattle.command.specs.declared.components.InsertComponent.{InsertComponent}
 use Rattle.splice_time.specs.declared.break_duration.Break.{Break}
@@ -20,21 +20,7 @@ use Rattle.table.specs.Table.{Table, done, inside, number, bit, flag_number, res
 use Rattle.table.specs.Writing.{Field, bits, walk}
 use Rattle.table.proofs.Lists.{append_nil}
 use Rattle.table.proofs.Walks.{past}
-use Rattle.command_measure.specs.Fields.{
-  time_fields,
-  unless_fields,
-  component_fields,
-  list_fields,
-  mode_fields,
-  break_fields,
-  tail_fields,
-  end_fields,
-  immediate_in,
-  insert_flags,
-  active_fields,
-  detail_fields,
-  insert_fields,
-}
+use Rattle.command_measure.specs.Fields.{time_fields, unless_fields, component_fields, list_fields, mode_fields, break_fields, tail_fields, end_fields, immediate_in, active_fields, insert_fields}
 
 pub time_fields_lem : (t : SpliceTime) (at : ℕ) → (walk splice_time t at).fields ≡ time_fields t
 unfolding splice_time number bit reserved

@@ -3,12 +3,11 @@ use Prim.Native.Nat.{ℕ, zero, suc, ◌+◌, ◌*◌, ◌/◌, ◌<◌, ◌≤�
 use mathlib.Core.Bool.{Bool, true, false, ◌&&◌}
 use mathlib.Core.List.{List, [], ◌∷◌, ◌++◌}
 use mathlib.Core.Path.{◌≡◌, refl, ap, ap₂, sym, ◌∙◌}
-use native.Mathlib.Nat.{zero-add}
 use native.Mathlib.Omega.{arith}
 use lib.Dec.{leb, eqb}
 use lib.ListN.{length, take, drop, length-append}
 use lib.Seq.{length-take-le}
-use borrow.Author.Tests.{leb-true, leb-false, eqb-true, ne_eqb, le-leb}
+use borrow.Author.Tests.{leb-true, leb-false, eqb-true, ne_eqb}
 use Rattle.command.specs.Command.{private, count_in}
 use Rattle.command.specs.Writable.{writable_insert}
 use Rattle.command.specs.Insert.{WithComponents, count, insert_of, insert}
@@ -17,7 +16,7 @@ use Rattle.command.specs.declared.SpliceCommand.{SpliceCommand}
 use Rattle.command.specs.declared.components.InsertComponent.{InsertComponent}
 use Rattle.command.specs.declared.insert.SpliceInsert.{SpliceInsert}
 use Rattle.command.specs.declared.insert.SpliceDetail.{SpliceDetail}
-use Rattle.splice_time.specs.Time.{splice_time, not_immediate}
+use Rattle.splice_time.specs.Time.{not_immediate}
 use Rattle.splice_time.specs.declared.SpliceTime.{SpliceTime}
 use Rattle.bit_stores.specs.Pen.{Pens, penned}
 use Rattle.bit_stores.specs.Private.{Fits}
@@ -29,15 +28,13 @@ use Rattle.bit_stores.proofs.Writes.{refusal_made, refused_answer, short_answer,
 use Rattle.table.specs.Bits.{pick, bits_of_num, bits_of, bytes_of, AllBytes}
 use Rattle.table.specs.Cursor.{place}
 use Rattle.table.specs.Lent.{stored, viewed}
-use Rattle.table.specs.Table.{number, part, remaining}
 use Rattle.table.specs.Writing.{Field, bits, run, rest, walk, seen, within, contents, print, Made, made, refused, make_of, make}
 use Rattle.table.specs.declared.View.{View}
 use Rattle.table.specs.declared.cursor.Cursor.{Cursor}
-use Rattle.table.proofs.Bits.{AllBits, all_append, all_num, all_bits, all_bytes_n, length_num, length_bits, length_bytes_n}
+use Rattle.table.proofs.Bits.{AllBits, all_append, all_num, all_bits, all_bytes_n, length_bits, length_bytes_n}
 use Rattle.table.proofs.Fields.{bits_bytes}
 use Rattle.table.proofs.Lists.{append_nil, and_true, zero_one}
 use Rattle.table.proofs.Stores.{stored_nil, stored_none}
-use Rattle.table.proofs.Walks.{print_bits, print_length}
 use Rattle.command_measure.specs.Fields.{ink, time_fields, insert_fields, private_ink}
 use Rattle.command_measure.specs.Made.{counted, times_fit, insert_made, command_made, measured_of}
 use Rattle.command_measure.specs.declared.Measured.{Measured}

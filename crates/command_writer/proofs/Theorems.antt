@@ -1,13 +1,12 @@
 -- Round trips of the commands: what is written of a command is read again as an equal one, and what is written of the reading of canonical bytes is those bytes.
-use Prim.Native.Nat.{ℕ, ◌*◌, ◌^◌, ◌<◌}
-use mathlib.Core.Bool.{Bool, true, false, ◌&&◌}
-use mathlib.Core.List.{List, [], ◌∷◌, ◌++◌}
+use Prim.Native.Nat.{ℕ, ◌*◌}
+use mathlib.Core.Bool.{Bool, true, false}
+use mathlib.Core.List.{List, []}
 use mathlib.Core.Path.{◌≡◌, refl, ap, sym, ◌∙◌}
-use lib.Dec.{ltb}
-use lib.ListN.{length, take}
-use Rattle.command.specs.Command.{private, read, empty, command_of}
+use lib.ListN.{length}
+use Rattle.command.specs.Command.{private, read, command_of}
 use Rattle.command.specs.Writable.{writable_insert}
-use Rattle.command.specs.Insert.{WithComponents, count, insert_of, insert}
+use Rattle.command.specs.Insert.{WithComponents, insert}
 use Rattle.command.specs.declared.CommandRead.{CommandRead}
 use Rattle.command.specs.declared.Private.{Private}
 use Rattle.command.specs.declared.SpliceCommand.{SpliceCommand}
@@ -16,12 +15,12 @@ use Rattle.command.specs.declared.insert.SpliceInsert.{SpliceInsert}
 use Rattle.command.proofs.InsertLeads.{Counted}
 use Rattle.command.proofs.InsertTrips.{insert_write_read, insert_read_write}
 use Rattle.command.proofs.PrivateTrips.{moved, private_write_read, private_write_same, private_read_write}
-use Rattle.splice_time.specs.Time.{splice_time, not_immediate}
+use Rattle.splice_time.specs.Time.{splice_time}
 use Rattle.splice_time.specs.declared.SpliceTime.{SpliceTime}
 use Rattle.splice_time.proofs.Times.{time_write_read, time_read_write}
 use Rattle.table.specs.Bits.{pick, bits_of, AllBytes}
-use Rattle.table.specs.Table.{Answer, got, short, parse, canonical}
-use Rattle.table.specs.Writing.{Made, made, refused, Same, make}
+use Rattle.table.specs.Table.{got, parse, canonical}
+use Rattle.table.specs.Writing.{made, refused, Same, make}
 use Rattle.table.proofs.Lists.{zero_one, append_nil}
 use Rattle.command_measure.specs.Made.{counted, times_fit, insert_made, command_made}
 use Rattle.command_measure.proofs.Making.{time_made, insert_made_of}

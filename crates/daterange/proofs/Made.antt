@@ -1,7 +1,7 @@
 -- What is made of a section that is read, and of one that is refused.
 use Prim.Native.Nat.{ℕ}
 use mathlib.Core.List.{List}
-use mathlib.Core.Path.{◌≡◌, refl, sym, ◌∙◌}
+use mathlib.Core.Path.{◌≡◌, sym, ◌∙◌}
 use Rattle.daterange_line.specs.declared.Cue.{Cue}
 use Rattle.daterange_writer.specs.Writing.{line_made}
 use Rattle.bit_stores.specs.Written.{answer_of, later_of}

@@ -1,7 +1,6 @@
 -- Which of the three names a section is written under, and the line (document 02, Q-1).
 use Rattle.std.specs.Prelude.{ℕ, List}
 use Rattle.command.specs.declared.SpliceCommand.{SpliceCommand}
-use Rattle.command.specs.declared.insert.InsertDetail.{InsertDetail}
 use Rattle.command.specs.declared.insert.SpliceDetail.{SpliceDetail}
 use Rattle.daterange_line.specs.declared.Cue.{Cue}
 use Rattle.daterange_line.specs.declared.Cue.TheVariants.{Cmd, Out, In}

@@ -1,9 +1,9 @@
 -- What is written for a section reads back, by the write's own answer.
 --     accepted_write_reads_back    the same section, ID and date, and the name that the command chose, for every accepted write
-use Prim.Native.Nat.{ℕ, ◌≤◌, ◌<◌}
+use Prim.Native.Nat.{ℕ, ◌≤◌}
 use mathlib.Core.Bool.{Bool, true, false, ◌&&◌}
 use mathlib.Core.List.{List, ◌++◌}
-use mathlib.Core.Path.{◌≡◌, refl, ap, sym, ◌∙◌}
+use mathlib.Core.Path.{◌≡◌, refl, ap, sym}
 use native.Mathlib.Omega.{arith}
 use lib.Dec.{leb}
 use lib.ListN.{length, take, drop}
@@ -25,7 +25,7 @@ use Rattle.table.specs.Bits.{pick, AllBytes}
 use Rattle.table.specs.Lent.{viewed}
 use Rattle.table.specs.Writing.{Made, made, refused}
 use Rattle.table.specs.declared.View.{View}
-use Rattle.table.proofs.Lists.{and_true, zero_one}
+use Rattle.table.proofs.Lists.{zero_one}
 use Rattle.daterange_laws.proofs.Theorems.{written_then_read}
 
 -- what a line reads back to, in any room that the section fits

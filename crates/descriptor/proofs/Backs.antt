@@ -1,20 +1,17 @@
 -- A segmentation descriptor's fields after its UPID: what is read of them from byte i on.
 use Prim.Native.Nat.{ℕ, zero, suc, ◌+◌, ◌*◌, ◌-◌, ◌/◌, ◌<◌, ◌≤◌}
-use mathlib.Core.Bool.{Bool, true, false}
 use mathlib.Core.List.{List}
 use mathlib.Core.Path.{◌≡◌, refl, ap, sym, ◌∙◌}
 use native.Mathlib.Omega.{arith}
-use lib.Dec.{eqb}
 use lib.ListN.{length, get_or}
 use borrow.Author.Tests.{eq-eqb, ne_eqb}
 use Rattle.names.specs.Segmentation.{segmentation_type_of}
 use Rattle.names.specs.declared.segmentation.SegmentationTypeId.{SegmentationTypeId}
 use Rattle.table.specs.Bits.{bits_of, field}
-use Rattle.table.specs.Table.{Table, done, inside, uimsbf, got, short, parse}
+use Rattle.table.specs.Table.{Table, done, uimsbf, got, short, parse}
 use Rattle.table.proofs.Fields.{byte_field}
 use Rattle.table.proofs.Steps.{takes_in, lacks_in, takes_number, lacks_number, takes_remaining}
 use Rattle.descriptor.specs.Segmentation.{sub_segment, sub_segments, back}
-use Rattle.descriptor.specs.declared.back.Back.{Back}
 use Rattle.descriptor.specs.declared.segmentation.SubSegments.{SubSegments}
 
 -- the byte whose bits start at p

@@ -1,5 +1,5 @@
 -- What stands beside a segmentation descriptor: where its components lie, and what the readers of them answer.
-use Prim.Native.Nat.{ℕ, zero, suc, ◌+◌, ◌*◌, ◌-◌, ◌/◌, ◌^◌, ◌<◌, ◌≤◌}
+use Prim.Native.Nat.{ℕ, zero, suc, ◌+◌, ◌*◌, ◌-◌, ◌^◌, ◌<◌, ◌≤◌}
 use mathlib.Core.Bool.{Bool, true, false}
 use mathlib.Core.List.{List, [], ◌∷◌, ◌++◌}
 use mathlib.Core.Path.{◌≡◌, refl, ap, sym, subst, ◌∙◌}
@@ -7,35 +7,17 @@ use native.Mathlib.Nat.{zero-add, sub-zero, zero-sub, suc-sub-suc}
 use native.Mathlib.Numerals.{add-one}
 use native.Mathlib.Omega.{arith}
 use lib.Dec.{eqb}
-use lib.ListN.{length, get_or, drop, set, replicate, length-replicate}
+use lib.ListN.{length, drop, set, replicate, length-replicate}
 use lib.Seq.{sets, sets-eq}
-use Rattle.table.specs.Bits.{pick, bits_of, field}
+use Rattle.table.specs.Bits.{bits_of, field}
 use Rattle.table.specs.Lent.{viewed}
-use Rattle.table.specs.Table.{Table, done, must, inside, reserved, list, ones, Answer, got, short, parse}
+use Rattle.table.specs.Table.{Table, done, must, reserved, list, ones, Answer, got, short, parse}
 use Rattle.table.specs.declared.cursor.Short.{Short}
 use Rattle.table.proofs.Laws.{field_there}
-use Rattle.table.proofs.Lists.{zero_one}
 use Rattle.table.proofs.Reading.{field_lt}
 use Rattle.table.proofs.Steps.{reads_in, onward, takes_in, lacks_in, reads_number, reads_flag, list_turn, list_short, list_none}
 use Rattle.upid.specs.Upid.{eidr_of}
-use Rattle.descriptor.specs.Segmentation.{
-  delivery_restrictions,
-  component,
-  blank_component,
-  Moded,
-  mode,
-  duration,
-  written_upid,
-  ListedFront,
-  parts,
-  front,
-  back,
-  Head,
-  head,
-  active_from,
-  Segmentation,
-  segmentation,
-}
+use Rattle.descriptor.specs.Segmentation.{delivery_restrictions, component, blank_component, Moded, mode, duration, written_upid, ListedFront, parts, front, back, Head, head, active_from, segmentation}
 use Rattle.descriptor.specs.Private.{filling}
 use Rattle.descriptor.specs.Descriptor.{descriptor_of}
 use Rattle.descriptor.specs.Full.{filled, blank_beside, beside_in, beside_of, beside_read, identifier_read, full_of}

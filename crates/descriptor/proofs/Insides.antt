@@ -1,11 +1,11 @@
 -- The views of a descriptor, and of a refusal, lie in its payload.
-use Prim.Native.Nat.{ℕ, ◌+◌, ◌*◌, ◌/◌, ◌<◌, ◌≤◌}
-use mathlib.Core.Bool.{Bool, true, false, ◌||◌}
+use Prim.Native.Nat.{ℕ, ◌+◌, ◌*◌, ◌/◌, ◌≤◌}
+use mathlib.Core.Bool.{Bool, true, false}
 use mathlib.Core.List.{List, [], ◌∷◌}
-use mathlib.Core.Path.{◌≡◌, refl, ap, sym, ◌∙◌}
+use mathlib.Core.Path.{◌≡◌, refl, ap, sym}
 use native.Mathlib.Omega.{arith}
 use lib.Dec.{ltb, eqb}
-use lib.ListN.{length, take, drop, length-take}
+use lib.ListN.{length, drop, length-take}
 use borrow.Author.Tests.{le-leb}
 use Rattle.table.specs.Bits.{pick, bits_of, field}
 use Rattle.table.specs.Lent.{viewed}
@@ -13,7 +13,6 @@ use Rattle.table.specs.Table.{Table, inside, reserved, part, Answer, got, short,
 use Rattle.table.specs.declared.View.{View}
 use Rattle.table.proofs.Bits.{length_bits}
 use Rattle.table.proofs.Laws.{view_there}
-use Rattle.table.proofs.Lists.{zero_one}
 use Rattle.table.proofs.Steps.{reads_in, reads_number, reads_flag}
 use Rattle.upid.specs.Cover.{All, none, more}
 use Rattle.upid.specs.Upid.{check_of}

@@ -1,14 +1,13 @@
 -- The payloads of avail, DTMF, time and reserved descriptors: what a reader answers.
-use Prim.Native.Nat.{ℕ, ◌+◌, ◌*◌, ◌-◌, ◌/◌, ◌%◌, ◌^◌, ◌<◌, ◌≤◌}
-use mathlib.Core.Bool.{Bool, true, false}
+use Prim.Native.Nat.{ℕ, ◌+◌, ◌*◌, ◌-◌, ◌/◌, ◌<◌, ◌≤◌}
 use mathlib.Core.List.{List}
-use mathlib.Core.Path.{◌≡◌, refl, ap, sym, ◌∙◌}
+use mathlib.Core.Path.{◌≡◌, ◌∙◌}
 use native.Mathlib.Omega.{arith}
 use lib.ListN.{length}
 use borrow.Author.Tests.{lt-ltb, le-ltb}
 use Rattle.table.specs.Bits.{bits_of, field}
 use Rattle.table.specs.Cursor.{place, skipped_of, passed_of}
-use Rattle.table.specs.Table.{Table, done, inside, number, reserved, part, uimsbf, ones, Answer, got, short, parse}
+use Rattle.table.specs.Table.{Table, done, inside, number, reserved, part, ones, got, short, parse}
 use Rattle.table.specs.declared.View.{View}
 use Rattle.table.specs.declared.cursor.Cursor.{Cursor}
 use Rattle.table.specs.declared.cursor.Passed.{Passed}

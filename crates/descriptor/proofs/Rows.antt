@@ -5,13 +5,13 @@ use mathlib.Core.List.{List, [], ◌∷◌}
 use mathlib.Core.Path.{◌≡◌, refl}
 use Rattle.names.specs.Segmentation.{segmentation_type_of}
 use Rattle.table.specs.Lent.{viewed}
-use Rattle.table.specs.Table.{number, bit, reserved, part, remaining, list}
+use Rattle.table.specs.Table.{number, bit, reserved, part, remaining}
 use Rattle.upid.specs.Upid.{check_of}
 use Rattle.upid.specs.declared.Refusal.{Refusal}
 use Rattle.descriptor.specs.Descriptor as d
 use Rattle.descriptor.specs.Descriptor.{avail_of, dtmf_of, active_with, active_of, descriptor_of, is_cuei}
-use Rattle.descriptor.specs.Plain.{avail, dtmf}
-use Rattle.descriptor.specs.Segmentation.{blank_upid, device_of, delivery_restrictions, mode, duration, written_upid, parts, front, sub_segments, back, head}
+use Rattle.descriptor.specs.Plain.{dtmf}
+use Rattle.descriptor.specs.Segmentation.{blank_upid, delivery_restrictions, mode, duration, written_upid, parts, front, sub_segments, back, head}
 use Rattle.descriptor.specs.declared.Descriptor.TheVariants.{Dtmf, Segmentation}
 use Rattle.descriptor.specs.declared.DescriptorRead.{DescriptorRead}
 use Rattle.descriptor.specs.declared.DescriptorRead.TheVariants.{Is, Refused}

@@ -1,9 +1,8 @@
 -- A segmentation descriptor, its UPID as written, as a structure: what is written of it is read again, and the other way round.
-use Prim.Native.Nat.{ℕ, ◌+◌, ◌*◌, ◌-◌, ◌/◌, ◌%◌}
-use mathlib.Core.Bool.{Bool, true, false, not, ◌&&◌}
+use Prim.Native.Nat.{ℕ, ◌+◌, ◌*◌, ◌-◌, ◌/◌}
+use mathlib.Core.Bool.{Bool, true, false}
 use mathlib.Core.List.{List, [], ◌∷◌}
-use mathlib.Core.Path.{◌≡◌, refl, ap, sym, ◌∙◌}
-use native.Mathlib.Nat.{zero-add}
+use mathlib.Core.Path.{◌≡◌, refl}
 use native.Mathlib.Omega.{arith}
 use lib.ListN.{length}
 use Rattle.names.specs.Flags.{restrictions_bits, restrictions_of}
@@ -15,48 +14,14 @@ use Rattle.table.proofs.Leading.{Leads, leads_in, leads_done, leads_number, lead
 use Rattle.table.proofs.Lists.{zero_one, and_true}
 use Rattle.table.proofs.Structure as laws
 use Rattle.table.proofs.Telling.{Each}
-use Rattle.descriptor.specs.Segmentation.{
-  device_of,
-  delivery_restrictions,
-  component,
-  blank_component,
-  count_of,
-  Moded,
-  mode,
-  mode_size,
-  duration,
-  duration_size,
-  written_upid,
-  ListedFront,
-  parts,
-  front,
-  sub_bytes,
-  sub_segments,
-  back,
-  Head,
-  head,
-  head_of,
-  front_of,
-  back_of,
-  active_from,
-  Segmentation,
-  segmentation,
-  agrees,
-  by_program,
-  lasting,
-  unrestricted,
-  writable_front,
-  writable_detail,
-}
+use Rattle.descriptor.specs.Segmentation.{device_of, delivery_restrictions, component, blank_component, count_of, mode, mode_size, duration, duration_size, written_upid, ListedFront, parts, front, sub_bytes, sub_segments, back, Head, head, front_of, back_of, active_from, Segmentation, segmentation, agrees, by_program, lasting, unrestricted, writable_front, writable_detail}
 use Rattle.descriptor.specs.declared.back.Back.{Back}
 use Rattle.descriptor.specs.declared.front.Front.{Front}
 use Rattle.descriptor.specs.declared.segmentation.DeliveryRestrictionFlags.{DeliveryRestrictionFlags}
 use Rattle.descriptor.specs.declared.segmentation.SegmentationComponent.{SegmentationComponent}
-use Rattle.descriptor.specs.declared.segmentation.SegmentationDescriptor.{SegmentationDescriptor}
 use Rattle.descriptor.specs.declared.segmentation.DescriptorDetail.{DescriptorDetail}
 use Rattle.descriptor.specs.declared.segmentation.DescriptorDetail.TheVariants.{Cancel, Active}
 use Rattle.descriptor.specs.declared.segmentation.SegmentationDuration.{SegmentationDuration}
-use Rattle.descriptor.specs.declared.segmentation.SegmentationDetail.{SegmentationDetail}
 use Rattle.descriptor.specs.declared.segmentation.SegmentationMode.{SegmentationMode}
 use Rattle.descriptor.specs.declared.segmentation.SegmentationUpid.{SegmentationUpid}
 use Rattle.descriptor.specs.declared.segmentation.SubSegments.{SubSegments}

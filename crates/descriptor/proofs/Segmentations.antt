@@ -1,6 +1,6 @@
 -- A segmentation descriptor: what is read of it. s are the payload's bytes.
 use Prim.Native.Nat.{ℕ, ◌+◌, ◌*◌, ◌-◌, ◌/◌, ◌%◌, ◌<◌, ◌≤◌}
-use mathlib.Core.Bool.{Bool, true, false, ◌||◌}
+use mathlib.Core.Bool.{Bool, true, false}
 use mathlib.Core.List.{List, []}
 use mathlib.Core.Path.{◌≡◌, refl, ap, sym, ◌∙◌}
 use native.Mathlib.Nat.{add-zero}
@@ -10,7 +10,7 @@ use lib.ListN.{length, get_or, take, drop, length-take}
 use borrow.Author.Tests.{leb-true}
 use Rattle.table.specs.Bits.{pick, bits_of, field}
 use Rattle.table.specs.Lent.{viewed}
-use Rattle.table.specs.Table.{Table, done, Answer, got, short, parse}
+use Rattle.table.specs.Table.{got, short, parse}
 use Rattle.table.specs.declared.View.{View}
 use Rattle.table.specs.declared.cursor.Short.{Short}
 use Rattle.table.proofs.Lists.{zero_one}
@@ -31,7 +31,6 @@ use Rattle.descriptor.specs.declared.segmentation.DeliveryRestrictionFlags.{Deli
 use Rattle.descriptor.specs.declared.segmentation.SegmentationComponent.{SegmentationComponent}
 use Rattle.descriptor.specs.declared.segmentation.DescriptorDetail.TheVariants.{Cancel}
 use Rattle.descriptor.specs.declared.segmentation.SegmentationDuration.{SegmentationDuration}
-use Rattle.descriptor.specs.declared.segmentation.SegmentationMode.{SegmentationMode}
 use Rattle.descriptor.specs.declared.segmentation.SegmentationUpid.{SegmentationUpid}
 use Rattle.descriptor.specs.declared.segmentation.UpidChecked.{UpidChecked}
 use Rattle.descriptor.proofs.Parts.{ends_inside, bit_at, restrictions_there}

@@ -3,10 +3,9 @@
 --     upid_none .. text_first         the answers of the functions that move
 --     item_views                      the views of an item are those of its payload's reading, moved
 use Prim.Native.Nat.{ℕ, ◌+◌, ◌^◌, ◌<◌}
-use mathlib.Core.Bool.{Bool, true, false, ◌||◌, cond as pick}
+use mathlib.Core.Bool.{Bool, true, false, cond as pick}
 use mathlib.Core.List.{List, [], ◌∷◌, map}
 use mathlib.Core.Path.{◌≡◌, refl, ap, sym}
-use lib.Dec.{eqb}
 use borrow.Author.Tests.{eq-eqb, ne_eqb}
 use Rattle.table.specs.Lent.{shifted}
 use Rattle.table.specs.declared.View.{View}

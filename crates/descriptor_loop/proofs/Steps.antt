@@ -20,7 +20,7 @@ use Rattle.descriptor_loop.specs.Cover.{Ends, few, over, full, TakesRest}
 use Rattle.descriptor_loop.specs.Items.{short, without_identifier, item_at, read_at, complete_at, step_of, unless_end, Listed}
 use Rattle.table.specs.Lent.{shifted}
 use Rattle.descriptor_loop.specs.Place.{views_of}
-use Rattle.descriptor_loop.specs.declared.Item.TheVariants.{End, Refused, Is}
+use Rattle.descriptor_loop.specs.declared.Item.TheVariants.{End, Refused}
 use Rattle.descriptor_loop.specs.declared.ItemRefusal.{ItemRefusal}
 use Rattle.descriptor_loop.specs.declared.ItemRefusal.TheVariants.{InvalidDescriptorLength, Other}
 use Rattle.descriptor_loop.specs.declared.Step.{Step}

@@ -1,44 +1,18 @@
 -- The fields that a segmentation descriptor's table has of what is written, part by part.
 --     fields_are     they are those of specs/Parts.antt
 --     active_fields  the same of an active segmentation with any UPID, cut at the UPID
-use Prim.Native.Nat.{ℕ, zero, suc, ◌+◌, ◌*◌, ◌/◌, ◌^◌, ◌-◌}
+use Prim.Native.Nat.{ℕ, ◌+◌}
 use mathlib.Core.Bool.{Bool, true, false}
 use mathlib.Core.List.{List, [], ◌∷◌, ◌++◌, append_assoc}
-use mathlib.Core.Path.{◌≡◌, refl, ap, ap₂, sym, ◌∙◌}
-use native.Mathlib.Omega.{arith}
+use mathlib.Core.Path.{◌≡◌, refl, ap, ap₂, ◌∙◌}
 use lib.Dec.{eqb}
 use lib.ListN.{length, get_or, drop}
 use Rattle.names.specs.Segmentation.{segmentation_number}
-use Rattle.table.specs.Table.{Table, done, inside, flag_number, number, bit, reserved, part, remaining, list, uimsbf, flag, ones}
+use Rattle.table.specs.Table.{Table, inside, flag_number, number, bit, reserved, part, remaining, list, flag}
 use Rattle.table.specs.Writing.{Field, bits, Walk, walk}
-use Rattle.table.specs.declared.View.{View}
 use Rattle.table.proofs.Lists.{append_nil}
 use Rattle.table.proofs.Walks.{past, walk_inside}
-use Rattle.descriptor.specs.Segmentation.{
-  delivery_restrictions,
-  blank_component,
-  component,
-  count_of,
-  Moded,
-  mode,
-  duration,
-  written_upid,
-  ListedFront,
-  parts,
-  front,
-  sub_segments,
-  back,
-  head,
-  head_of,
-  front_of,
-  back_of,
-  with_upid,
-  Segmentation,
-  segmentation,
-  by_program,
-  lasting,
-  unrestricted,
-}
+use Rattle.descriptor.specs.Segmentation.{delivery_restrictions, blank_component, component, count_of, Moded, mode, duration, written_upid, ListedFront, parts, front, sub_segments, back, head, front_of, back_of, with_upid, Segmentation, segmentation, by_program, lasting, unrestricted}
 use Rattle.descriptor.specs.declared.segmentation.DeliveryRestrictionFlags.{DeliveryRestrictionFlags}
 use Rattle.descriptor.specs.declared.segmentation.SegmentationComponent.{SegmentationComponent}
 use Rattle.descriptor.specs.declared.segmentation.DescriptorDetail.{DescriptorDetail}
@@ -48,7 +22,7 @@ use Rattle.descriptor.specs.declared.segmentation.SegmentationDetail.{Segmentati
 use Rattle.descriptor.specs.declared.segmentation.SegmentationMode.{SegmentationMode}
 use Rattle.descriptor.specs.declared.segmentation.SegmentationUpid.{SegmentationUpid}
 use Rattle.descriptor.specs.declared.segmentation.SubSegments.{SubSegments}
-use Rattle.descriptor_measure.specs.Private.{delivery_fields, component_fields, components_fields, mode_fields, duration_fields, upid_fields, sub_fields, back_fields, flag_fields, head_fields, active_fields, segment_fields}
+use Rattle.descriptor_measure.specs.Private.{delivery_fields, component_fields, components_fields, mode_fields, duration_fields, upid_fields, sub_fields, back_fields, flag_fields, head_fields, segment_fields}
 use Rattle.descriptor_measure.specs.Writing as writing
 use Rattle.descriptor_measure.specs.Writing.{written_detail}
 

@@ -7,14 +7,14 @@ use native.Mathlib.Omega.{arith}
 use lib.Dec.{leb, ltb, eqb}
 use lib.ListN.{length, take}
 use lib.Seq.{length-take-le}
-use borrow.Author.Tests.{leb-true, leb-false, not-true, not-false, lt-ltb, le-leb, lt-leb, eq-eqb, ne_eqb}
+use borrow.Author.Tests.{leb-true, leb-false, not-true, not-false, lt-ltb, le-leb, lt-leb}
 use Rattle.names.specs.Flags.{restrictions_bits}
 use Rattle.names.specs.declared.flags.DeviceRestrictions.{DeviceRestrictions}
 use Rattle.table.specs.Bits.{pick, bytes_of}
 use Rattle.table.specs.Table.{flag_number}
-use Rattle.table.specs.Writing.{Field, bits, run, rest, walk, seen, within, contents, print, Made, made, refused, make_of, make, refusal_in}
+use Rattle.table.specs.Writing.{Field, bits, run, rest, seen, within, contents, print, Made, made, refused, make_of, refusal_in}
 use Rattle.table.proofs.Lists.{and_assoc}
-use Rattle.descriptor.specs.Segmentation.{component_count, blank_upid, by_program, count_of, writable_detail, front_of, lasting, segmentation, unrestricted}
+use Rattle.descriptor.specs.Segmentation.{component_count, blank_upid, by_program, count_of, writable_detail, front_of, lasting, unrestricted}
 use Rattle.descriptor.specs.Full.{filled}
 use Rattle.descriptor.specs.declared.segmentation.DeliveryRestrictionFlags.{DeliveryRestrictionFlags}
 use Rattle.descriptor.specs.declared.segmentation.SegmentationComponent.{SegmentationComponent}

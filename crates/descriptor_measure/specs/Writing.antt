@@ -1,11 +1,10 @@
 -- What the descriptor writer makes of a readable item: its bytes, or the number of a refusal. 01, "Canonical form and writer".
 -- An item is a descriptor with what stands beside it: the identifier of a reserved one, the components and the EIDR of a segmentation descriptor, and
 -- the lent bytes that its views refer to.
-use Rattle.std.specs.Prelude.{ℕ, ◌+◌, ◌*◌, Bool, true, false, not, ◌&&◌, List, [], ◌∷◌, ◌++◌, leb, ltb, eqb, length, take}
+use Rattle.std.specs.Prelude.{ℕ, ◌+◌, Bool, true, false, not, ◌&&◌, List, [], ◌∷◌, ◌++◌, leb, ltb, eqb, length, take}
 use Rattle.table.specs.Bits.{pick}
 use Rattle.table.specs.Lent.{lies_in, viewed}
 use Rattle.table.specs.Writing.{Made, made, refused, make}
-use Rattle.table.specs.declared.View.{View}
 use Rattle.upid.specs.Upid.{check_of}
 use Rattle.upid.specs.declared.UpidRead.{UpidRead}
 use Rattle.descriptor.specs.Descriptor.{is_cuei}

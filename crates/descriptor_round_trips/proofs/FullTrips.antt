@@ -1,7 +1,7 @@
 -- A full descriptor: its envelope, by identifier and tag, and what stands beside it.
 --     reads_as          what reads as its payload does reads so in its envelope
 --     full_descriptor_read_write        a canonical descriptor is what is written of its reading
-use Prim.Native.Nat.{ℕ, zero, suc, ◌+◌, ◌≤◌}
+use Prim.Native.Nat.{ℕ, ◌+◌, ◌≤◌}
 use mathlib.Core.Bool.{Bool, true, false, ◌&&◌}
 use mathlib.Core.List.{List, [], ◌∷◌}
 use mathlib.Core.Path.{◌≡◌, refl, ap, ap₂, sym, subst, ◌∙◌}

@@ -1,15 +1,15 @@
 -- Avail, DTMF, time and reserved descriptors: a canonical payload is what is written of its own reading.
-use Prim.Native.Nat.{ℕ, ◌+◌, ◌*◌, ◌≤◌}
-use mathlib.Core.Bool.{Bool, true, false, not, ◌&&◌}
-use mathlib.Core.List.{List, [], ◌∷◌}
-use mathlib.Core.Path.{◌≡◌, refl, ap, sym, ◌∙◌}
+use Prim.Native.Nat.{ℕ}
+use mathlib.Core.Bool.{true, false, ◌&&◌}
+use mathlib.Core.List.{List}
+use mathlib.Core.Path.{◌≡◌, refl}
 use native.Mathlib.Omega.{arith}
-use lib.Dec.{ltb, eqb}
+use lib.Dec.{ltb}
 use lib.ListN.{length, replicate}
 use borrow.Author.Tests.{le-ltb}
-use Rattle.table.specs.Bits.{bits_of, AllBytes}
-use Rattle.table.specs.Table.{got, parse, canonical_by}
-use Rattle.table.specs.Writing.{made, make}
+use Rattle.table.specs.Bits.{AllBytes}
+use Rattle.table.specs.Table.{canonical_by}
+use Rattle.table.specs.Writing.{made}
 use Rattle.table.specs.declared.View.{View}
 use Rattle.table.proofs.Structure as laws
 use Rattle.descriptor.specs.Descriptor.{avail_of, dtmf_of, time_of, reserved_of, is_cuei}

@@ -1,16 +1,16 @@
 -- Avail, DTMF, time and reserved descriptors: what is written of them is read again, and the other way round.
-use Prim.Native.Nat.{ℕ, ◌+◌, ◌*◌, ◌<◌, ◌≤◌}
-use mathlib.Core.Bool.{Bool, true, false, ◌&&◌}
-use mathlib.Core.List.{List, [], ◌∷◌, ◌++◌}
+use Prim.Native.Nat.{ℕ, ◌+◌, ◌*◌, ◌≤◌}
+use mathlib.Core.Bool.{Bool, true, false}
+use mathlib.Core.List.{List, []}
 use mathlib.Core.Path.{◌≡◌, refl, ap, sym, ◌∙◌}
 use native.Mathlib.Omega.{arith}
-use lib.Dec.{leb, eqb}
+use lib.Dec.{leb}
 use lib.ListN.{length, take, drop}
 use borrow.Author.Tests.{eq-eqb, eqb-true, le-ltb, le-leb, leb-true}
-use Rattle.table.specs.Bits.{pick, bits_of, AllBytes}
+use Rattle.table.specs.Bits.{bits_of, AllBytes}
 use Rattle.table.specs.Lent.{viewed}
 use Rattle.table.specs.Table.{Table, number, reserved, part, remaining, Answer, got, short, parse, canonical, takes_all, canonical_by}
-use Rattle.table.specs.Writing.{walk, Content, bytes, Same, made, make_of, make}
+use Rattle.table.specs.Writing.{walk, Same, made, make_of, make}
 use Rattle.table.specs.declared.View.{View}
 use Rattle.table.proofs.Lists.{zero_one, and_true, append_nil}
 use Rattle.table.proofs.Structure as laws

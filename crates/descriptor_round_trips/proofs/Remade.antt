@@ -2,7 +2,7 @@
 --     same_make       fields that hold the same make the same bytes
 --     active_makes    of an active segmentation: only its UPID's fields have a view
 --     upid_found      of an active segmentation that reads back: the UPID's bytes
-use Prim.Native.Nat.{ℕ, ◌+◌, ◌^◌}
+use Prim.Native.Nat.{ℕ, ◌^◌}
 use mathlib.Core.Bool.{Bool, true, false, ◌&&◌}
 use mathlib.Core.List.{List, [], ◌∷◌, ◌++◌}
 use mathlib.Core.Path.{◌≡◌, refl, ap, ap₂, sym, ◌∙◌}

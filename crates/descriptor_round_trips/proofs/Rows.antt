@@ -6,16 +6,14 @@ use mathlib.Core.Path.{◌≡◌, refl}
 use lib.ListN.{replicate}
 use Rattle.names.specs.Segmentation.{segmentation_type_of, writable_segmentation}
 use Rattle.table.specs.Lent.{viewed}
-use Rattle.table.specs.Table.{number, bit, reserved, part, remaining, list}
+use Rattle.table.specs.Table.{number, bit, reserved, part, remaining}
 use Rattle.table.specs.Writing.{made, refused}
-use Rattle.table.specs.declared.View.{View}
 use Rattle.upid.specs.Upid.{check_of, read_of, plain_of, length_of, is_text, reported_of}
-use Rattle.descriptor.specs.Descriptor.{is_cuei}
-use Rattle.descriptor.specs.Plain.{avail, dtmf}
-use Rattle.descriptor.specs.Segmentation.{device_of, delivery_restrictions, mode, duration, written_upid, parts, front, sub_segments, back, head, segmentation, writable_front, writable_detail}
+use Rattle.descriptor.specs.Plain.{dtmf}
+use Rattle.descriptor.specs.Segmentation.{delivery_restrictions, mode, duration, written_upid, parts, front, sub_segments, back, head, segmentation, writable_front, writable_detail}
 use Rattle.descriptor.specs.Full.{blank_beside}
 use Rattle.descriptor.specs.declared.Descriptor.{Descriptor}
-use Rattle.descriptor.specs.declared.Descriptor.TheVariants.{Avail, Dtmf, Segmentation}
+use Rattle.descriptor.specs.declared.Descriptor.TheVariants.{Dtmf, Segmentation}
 use Rattle.descriptor.specs.declared.segmentation.DeliveryRestrictionFlags.{DeliveryRestrictionFlags}
 use Rattle.descriptor.specs.declared.segmentation.DescriptorDetail.TheVariants.{Active}
 use Rattle.descriptor.specs.declared.segmentation.SegmentationDuration.{SegmentationDuration}

@@ -2,7 +2,7 @@
 use Prim.Native.Nat.{ℕ}
 use mathlib.Core.Bool.{Bool, true, false}
 use mathlib.Core.List.{List, []}
-use mathlib.Core.Path.{◌≡◌, refl, ap, sym, ◌∙◌}
+use mathlib.Core.Path.{◌≡◌, refl, ap}
 use Rattle.table.specs.Bits.{pick, bits_of}
 use Rattle.table.specs.Lent.{viewed}
 use Rattle.table.specs.Table.{Table, done, inside, Answer, got, short, parse}

@@ -1,9 +1,9 @@
 -- A segmentation descriptor by its table: what is written is read to its end and canonical, and canonical bytes are what is written of their reading.
 use Prim.Native.Nat.{ℕ, ◌*◌, ◌≤◌}
-use mathlib.Core.Bool.{Bool, true, false, ◌&&◌}
-use mathlib.Core.List.{List, [], ◌∷◌, ◌++◌}
-use mathlib.Core.Path.{◌≡◌, refl, ap, sym, ◌∙◌}
-use lib.ListN.{length, take}
+use mathlib.Core.Bool.{true, false}
+use mathlib.Core.List.{List, []}
+use mathlib.Core.Path.{◌≡◌, refl, sym, ◌∙◌}
+use lib.ListN.{length}
 use borrow.Author.Tests.{eq-eqb, eqb-true}
 use Rattle.table.specs.Bits.{bits_of, AllBytes}
 use Rattle.table.specs.Table.{Answer, got, short, parse, canonical, takes_all, canonical_by}

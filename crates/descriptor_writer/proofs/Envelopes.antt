@@ -1,13 +1,13 @@
 -- An envelope and a payload stored: what a writer answers and leaves.
 use Prim.Native.Nat.{ℕ, ◌+◌, ◌*◌, ◌/◌, ◌<◌, ◌≤◌}
 use mathlib.Core.Bool.{true, false}
-use mathlib.Core.List.{List, [], ◌∷◌, ◌++◌, append_assoc}
+use mathlib.Core.List.{List, ◌∷◌, ◌++◌, append_assoc}
 use mathlib.Core.Path.{◌≡◌, refl, ap, ap₂, sym, ◌∙◌}
 use native.Mathlib.Omega.{arith}
 use lib.Dec.{leb}
 use lib.ListN.{length, drop, length-append}
 use borrow.Author.Tests.{le-leb, lt-leb}
-use Rattle.table.specs.Bits.{pick, bits_of, bytes_of, AllBytes}
+use Rattle.table.specs.Bits.{bits_of, bytes_of, AllBytes}
 use Rattle.table.specs.Cursor.{place}
 use Rattle.table.specs.Writing.{Content, print, Made, made, refused}
 use Rattle.table.specs.declared.cursor.Cursor.{Cursor}

@@ -4,14 +4,13 @@ use mathlib.Core.Bool.{Bool, true, false}
 use mathlib.Core.List.{List, [], ◌∷◌, ◌++◌}
 use mathlib.Core.Path.{◌≡◌, refl, ap, sym, subst, ◌∙◌}
 use native.Mathlib.Omega.{arith}
-use lib.Dec.{leb, eqb}
+use lib.Dec.{eqb}
 use lib.ListN.{length, take, drop}
 use lib.Seq.{take_all}
-use borrow.Author.Tests.{eq-eqb, ne_eqb, leb-true, le-leb}
-use Rattle.table.specs.Bits.{pick, bits_of_num, bits_of, bytes_of, AllBytes}
+use borrow.Author.Tests.{eq-eqb, ne_eqb, le-leb}
+use Rattle.table.specs.Bits.{pick, bits_of_num, bits_of, bytes_of}
 use Rattle.table.specs.Lent.{viewed}
-use Rattle.table.specs.Writing.{Field, Content, number, bytes, contents, print, Made, made, refused, refusal_in}
-use Rattle.table.specs.declared.View.{View}
+use Rattle.table.specs.Writing.{Content, number, bytes, contents, print, Made, made, refused, refusal_in}
 use Rattle.table.specs.declared.cursor.Cursor.{Cursor}
 use Rattle.descriptor.specs.Segmentation.{component_count, by_program, count_of, front_of, lasting, sub_bytes, unrestricted, mode_size, duration_size}
 use Rattle.descriptor.specs.Full.{filled, blank_beside}
@@ -32,7 +31,7 @@ use Rattle.bit_stores.proofs.Tables.{print_beside}
 use Rattle.descriptor_writer.specs.Stores.{Writes}
 use Rattle.descriptor_writer.specs.Private.{Stores, start, envelope_contents}
 use Rattle.descriptor_writer.proofs.Storing.{then, then_fields, same_print, put_bytes, number_then}
-use Rattle.descriptor_writer.proofs.Envelopes.{writes_refused, writes_long, writes_short, writes_stored}
+use Rattle.descriptor_writer.proofs.Envelopes.{writes_long, writes_short, writes_stored}
 use Rattle.descriptor_writer.proofs.Plainly.{Enveloped, refuses}
 
 -- ---- sizes

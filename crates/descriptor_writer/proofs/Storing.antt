@@ -2,17 +2,16 @@
 --     then                              storing cs and then ds is storing both
 --     put_number, put_bytes, put_none   one field; none
 --     put_joined                        several fields as one number
-use Prim.Native.Nat.{ℕ, ◌+◌, ◌*◌, ◌<◌, ◌≤◌}
+use Prim.Native.Nat.{ℕ, ◌+◌, ◌<◌, ◌≤◌}
 use mathlib.Core.List.{List, [], ◌∷◌, ◌++◌, append_assoc}
-use mathlib.Core.Path.{◌≡◌, refl, ap, ap₂, sym, ◌∙◌}
+use mathlib.Core.Path.{◌≡◌, refl, ap, sym, ◌∙◌}
 use native.Mathlib.Numerals.{add-one}
 use native.Mathlib.Omega.{arith}
 use lib.ListN.{length, take, get_or, length-append}
 use lib.Seq.{take-suc}
-use Rattle.table.specs.Bits.{bits_of_num, bits_of, AllBytes}
-use Rattle.table.specs.Writing.{Field, bits, run, rest, Content, number, bytes, count, content, contents, bits_in, print}
+use Rattle.table.specs.Bits.{bits_of_num, bits_of}
+use Rattle.table.specs.Writing.{Field, Content, number, bytes, count, content, contents, bits_in, print}
 use Rattle.table.specs.declared.cursor.Cursor.{Cursor}
-use Rattle.table.proofs.Lists.{append_nil}
 use Rattle.table.proofs.Walks.{print_bits}
 use Rattle.descriptor.specs.Segmentation.{blank_component}
 use Rattle.descriptor.specs.declared.segmentation.SegmentationComponent.{SegmentationComponent}

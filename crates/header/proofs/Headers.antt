@@ -1,7 +1,7 @@
 -- The splice header: what the reader answers, and its laws as a structure.
 use Prim.Native.Nat.{ℕ, ◌*◌, ◌%◌, ◌<◌, ◌≤◌}
-use mathlib.Core.Bool.{Bool, true, false, ◌&&◌}
-use mathlib.Core.List.{List, [], ◌∷◌, ◌++◌}
+use mathlib.Core.Bool.{Bool, true, ◌&&◌}
+use mathlib.Core.List.{List, ◌++◌}
 use mathlib.Core.Path.{◌≡◌, refl, ap, ap₂, sym, ◌∙◌}
 use native.Mathlib.Omega.{arith}
 use lib.Dec.{eqb}
@@ -24,7 +24,6 @@ use Rattle.header_numbers.specs.declared.HeaderNumbers.{HeaderNumbers}
 use Rattle.header_numbers.specs.declared.NumbersRead.{NumbersRead}
 use Rattle.header_numbers.proofs.Places.{numbers_told, none_told}
 use Rattle.header.specs.Header.{splice_header, header_read, header_of}
-use Rattle.header.specs.declared.header.HeaderRead.{HeaderRead}
 use Rattle.header.specs.declared.header.HeaderRead.TheVariants.{Header, NoHeader}
 use Rattle.header.specs.declared.header.SpliceInfoHeader.{SpliceInfoHeader}
 

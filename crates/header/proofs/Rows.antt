@@ -1,12 +1,12 @@
 -- The header of the standard's first sample.
 use mathlib.Core.Bool.{false}
-use mathlib.Core.List.{List, [], ◌∷◌}
+use mathlib.Core.List.{[], ◌∷◌}
 use mathlib.Core.Path.{◌≡◌, refl}
 use Rattle.names.specs.Algorithm.{algorithm_of}
 use Rattle.names.specs.Command.{command_type_of}
 use Rattle.table.specs.Table.{number, bit}
 use Rattle.header.specs.Header.{splice_header, header_read, header_of, number_of}
-use Rattle.header.specs.declared.header.HeaderRead.TheVariants.{Header, NoHeader}
+use Rattle.header.specs.declared.header.HeaderRead.TheVariants.{Header}
 
 -- 00 00 00 00 00 00 FF FF F0 05 06: the header of the standard's first sample
 pub sample : header_of (0 ∷ 0 ∷ 0 ∷ 0 ∷ 0 ∷ 0 ∷ 0xff ∷ 0xff ∷ 0xf0 ∷ 5 ∷ 6 ∷ []) ≡ Header (record {

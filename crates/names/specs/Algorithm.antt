@@ -1,5 +1,5 @@
 -- encryption_algorithm, six bits of the splice header. 000: `EncryptionAlgorithm`.
-use Rattle.std.specs.Prelude.{ℕ, Bool, cond as pick, List, [], ◌∷◌, ltb}
+use Rattle.std.specs.Prelude.{ℕ, Bool, cond as pick, [], ◌∷◌, ltb}
 use Rattle.names.specs.declared.algorithm.EncryptionAlgorithm.{EncryptionAlgorithm}
 use Rattle.names.specs.declared.algorithm.EncryptionAlgorithm.TheVariants.{
   None,

@@ -1,5 +1,5 @@
 -- splice_command_type, the last byte of the splice header. 000: `SpliceCommandType`.
-use Rattle.std.specs.Prelude.{ℕ, Bool, List, [], ◌∷◌}
+use Rattle.std.specs.Prelude.{ℕ, Bool, [], ◌∷◌}
 use Rattle.names.specs.declared.command.SpliceCommandType.{SpliceCommandType}
 use Rattle.names.specs.declared.command.SpliceCommandType.TheVariants.{
   SpliceNull,

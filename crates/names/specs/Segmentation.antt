@@ -1,5 +1,5 @@
 -- segmentation_type_id, what a segmentation descriptor marks. 000: `SegmentationTypeId`.
-use Rattle.std.specs.Prelude.{ℕ, Bool, List, [], ◌∷◌}
+use Rattle.std.specs.Prelude.{ℕ, Bool, [], ◌∷◌}
 use Rattle.names.specs.declared.segmentation.SegmentationTypeId.{SegmentationTypeId}
 use Rattle.names.specs.declared.segmentation.SegmentationTypeId.TheVariants.{
   NotIndicated,

@@ -1,5 +1,5 @@
 -- segmentation_upid_type, which says what kind of identifier a UPID is. 000: `SegmentationUpidType`.
-use Rattle.std.specs.Prelude.{ℕ, Bool, List, [], ◌∷◌}
+use Rattle.std.specs.Prelude.{ℕ, Bool, [], ◌∷◌}
 use Rattle.names.specs.declared.upid.SegmentationUpidType.{SegmentationUpidType}
 use Rattle.names.specs.declared.upid.SegmentationUpidType.TheVariants.{
   NotUsed,

@@ -5,30 +5,27 @@
 use Prim.Native.Nat.{ℕ, zero, suc, ◌+◌, ◌*◌, ◌-◌, ◌/◌, ◌%◌, ◌<◌, ◌≤◌}
 use mathlib.Core.Bool.{true}
 use mathlib.Core.List.{List, [], ◌∷◌, ◌++◌, append_assoc}
-use mathlib.Core.Path.{◌≡◌, refl, ap, ap₂, sym, subst, ◌∙◌}
-use native.Mathlib.Nat.{div-one}
+use mathlib.Core.Path.{◌≡◌, ap, ap₂, sym, subst, ◌∙◌}
 use native.Mathlib.Omega.{arith}
 use borrow.Author.Tests.{le-leb}
-use lib.ListN.{length, take, drop, get_or, length-append, length-take, length-drop, take-append-drop}
-use lib.Seq.{length-take-le, take-nil, take-take, drop-drop, take-add, take-suc, get_or-take, get_or-drop, drop-append-le, take-append-le}
+use lib.ListN.{length, take, drop, get_or, length-append, length-drop}
+use lib.Seq.{length-take-le, take-nil, take-take, drop-drop, take-add, take-suc, get_or-take, get_or-drop}
 use Rattle.crc.specs.Crc.{crc_bytes_of}
 use Rattle.descriptor.specs.Descriptor.{cuei}
-use Rattle.descriptor_loop.proofs.Steps.{Stands}
 use Rattle.descriptor_loop.specs.Items.{step_of, listed}
 use Rattle.relabel_found.proofs.Actives.{byte_in}
 use Rattle.relabel_found.proofs.Spots.{whole_is, spot_is, spots_found}
-use Rattle.relabel_found.specs.Found.{found, payload_at, fore_in, type_in, size_in, upid_in, post_in, spots}
-use Rattle.relabel_joined.specs.Relabel.{type_then, item_then, relabelled}
-use Rattle.relabel_loop.specs.Item.{segmentation_item}
+use Rattle.relabel_found.specs.Found.{found, fore_in, type_in, size_in, upid_in, post_in, spots}
+use Rattle.relabel_joined.specs.Relabel.{type_then, item_then}
 use Rattle.relabel_loop.specs.Loop.{behind_item, with_item}
-use Rattle.relabel_payload.specs.Payload.{payload, upid_head}
+use Rattle.relabel_payload.specs.Payload.{upid_head}
 use Rattle.relabel_section.specs.Frame.{header_and_command, spare_of, rest_with, body_with, section_with}
 use Rattle.section.specs.Section.{command_length, loop_length, loop_place, loop_bytes}
 use Rattle.table.proofs.Bits.{length_big_endian}
 use Rattle.table.specs.Bits.{big_endian}
 use Rattle.table.specs.Lent.{viewed}
 use Rattle.relabel.specs.Relabel.{payload_in, payload_then, section_then}
-use Rattle.relabel.specs.Private.{run, old_size, Lies, Takes, head_of, item_of, up_to_upid, back_of, body_of, cut_of, Spotted, head_in, place_in}
+use Rattle.relabel.specs.Private.{run, old_size, Lies, Takes, head_of, item_of, back_of, body_of, cut_of, Spotted, head_in, place_in}
 use Rattle.relabel.specs.declared.Place.{Place}
 
 -- ---- runs of a run

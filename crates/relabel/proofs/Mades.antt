@@ -7,8 +7,8 @@ use mathlib.Core.Bool.{Bool, true, false, ◌&&◌}
 use mathlib.Core.List.{List}
 use mathlib.Core.Path.{◌≡◌, refl, ap, ap₂, sym, subst, ◌∙◌}
 use native.Mathlib.Omega.{arith}
-use borrow.Author.Tests.{le-leb, lt-leb, leb-true, leb-false, eq-eqb, ne_eqb}
-use lib.Dec.{leb, eqb}
+use borrow.Author.Tests.{le-leb, lt-leb, leb-true, leb-false, ne_eqb}
+use lib.Dec.{leb}
 use lib.ListN.{length, get_or, take, drop, length-drop}
 use Rattle.command.specs.Command.{command_of}
 use Rattle.command.specs.declared.CommandRead.{CommandRead}
@@ -25,7 +25,7 @@ use Rattle.relabel_payload.specs.Payload.{upid_head}
 use Rattle.relabel_upid.proofs.Stores.{refused_upid}
 use Rattle.relabel_upid.specs.Relabel.{taken, upid_made, up_to}
 use Rattle.section.proofs.Acceptance.{number_some}
-use Rattle.section.proofs.Framing.{Framed, framed, command_read, is_refused, is_accepted, is_unknown, is_malformed, is_section}
+use Rattle.section.proofs.Framing.{framed, command_read, is_refused, is_accepted, is_unknown, is_malformed, is_section}
 use Rattle.section.specs.Section.{command_length, command_type, command_bytes, loop_length, loop_bytes, loop_place, frame_in, frame_of, moved, moved_read, accepted, through, section_of, number_of}
 use Rattle.section.specs.declared.Frame.{Frame}
 use Rattle.section.specs.declared.FrameRead.{FrameRead}
@@ -39,7 +39,7 @@ use Rattle.upid.proofs.Laws.{by_cases}
 use Rattle.upid.specs.Upid.{check_of}
 use Rattle.upid.specs.declared.UpidRead.{UpidRead}
 use Rattle.relabel.specs.Relabel.{payload_in, payload_then, section_then, fitting, loop_made, relabel_made}
-use Rattle.relabel.specs.Private.{run, old_size, Lies, Takes, Limit, Spotted, place_in, cut_of, wrapped, placed_made}
+use Rattle.relabel.specs.Private.{old_size, Lies, Takes, Limit, Spotted, place_in, wrapped, placed_made}
 use Rattle.relabel.specs.declared.Place.{Place}
 use Rattle.relabel.proofs.Cuts.{own_is, size_is, pay_is, old_is, type_is, upid_is_lem, pay_size, section_size, cut_is, loop_there, loop_byte}
 

@@ -1,5 +1,5 @@
 -- What the contracts of private functions say: the same section by places, in the order in which it is stored. No public contract cites this.
-use Rattle.std.specs.Prelude.{ℕ, ◌+◌, ◌*◌, ◌-◌, ◌/◌, ◌≤◌, List, ◌∷◌, ◌++◌, ◌≡◌, length, take, drop, get_or}
+use Rattle.std.specs.Prelude.{ℕ, ◌+◌, ◌*◌, ◌-◌, ◌/◌, ◌≤◌, List, ◌∷◌, ◌++◌, length, take, drop, get_or}
 use Rattle.crc.specs.Crc.{crc_of, crc_bytes_of}
 use Rattle.relabel_found.specs.Found.{size_in}
 use Rattle.relabel_joined.specs.Relabel.{type_then}

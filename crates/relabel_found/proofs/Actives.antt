@@ -2,7 +2,7 @@
 --     active_at_lem      the item, its tag, its identifier and its reading
 --     hole-in        the parts of its payload, by places
 use Prim.Native.Nat.{ℕ, suc, ◌+◌, ◌-◌, ◌≤◌, ◌<◌}
-use mathlib.Core.Bool.{Bool, true, false, not, ◌&&◌}
+use mathlib.Core.Bool.{Bool, true, false, not}
 use mathlib.Core.List.{List, [], ◌∷◌, ◌++◌}
 use mathlib.Core.Path.{◌≡◌, refl, ap, ap₂, sym, subst, ◌∙◌}
 use native.Mathlib.Omega.{arith}
@@ -19,7 +19,6 @@ use Rattle.descriptor.specs.Plain.{avail, dtmf, time, private_table}
 use Rattle.descriptor.specs.Segmentation.{cancelled}
 use Rattle.upid.specs.declared.Refusal.TheVariants.{NotEnoughData}
 use Rattle.descriptor.specs.Views.{with_upids}
-use Rattle.descriptor.specs.declared.Descriptor.{Descriptor}
 use Rattle.descriptor.specs.declared.Descriptor.TheVariants.{Avail, Dtmf, Segmentation, Time, Reserved}
 use Rattle.descriptor.specs.declared.DescriptorRead.{DescriptorRead}
 use Rattle.descriptor.specs.declared.DescriptorRead.TheVariants as read
@@ -30,11 +29,10 @@ use Rattle.descriptor.specs.declared.segmentation.SegmentationDetail.{Segmentati
 use Rattle.descriptor_loop.proofs.Steps.{Clause, long, ended, last, small, entire, clause, Stands}
 use Rattle.descriptor_loop.specs.Items.{item_at, read_at, complete_at, step_of, items_of}
 use Rattle.descriptor_loop.specs.Place.{moved_descriptor, moved_upid}
-use Rattle.descriptor_loop.specs.declared.Item.{Item}
 use Rattle.descriptor_loop.specs.declared.Item.TheVariants.{Is}
 use Rattle.descriptor_loop.specs.declared.Step.{Step}
 use Rattle.relabel_payload.proofs.Theorems.{of_the_payload_only_the_upid_differs}
-use Rattle.relabel_payload.specs.Payload.{payload, upid_head, Holed}
+use Rattle.relabel_payload.specs.Payload.{upid_head, Holed}
 use Rattle.relabel_found.specs.Found.{begins, is_active, found, payload_at, fore_in, type_in, size_in, upid_in, post_in}
 
 -- ---- which reading is a segmentation descriptor that is not cancelled

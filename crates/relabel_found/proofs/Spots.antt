@@ -3,11 +3,11 @@
 --     active_complete           and an active segmentation's payload is complete
 --     found_spots, spots_found  the same of an item
 use Prim.Native.Nat.{ℕ, ◌+◌, ◌*◌, ◌-◌, ◌/◌, ◌%◌, ◌≤◌, ◌<◌}
-use mathlib.Core.Bool.{Bool, true, false, not, ◌&&◌}
-use mathlib.Core.List.{List, []}
+use mathlib.Core.Bool.{Bool, true, false, not}
+use mathlib.Core.List.{List}
 use mathlib.Core.Path.{◌≡◌, refl, ap, sym, subst, ◌∙◌}
 use native.Mathlib.Omega.{arith}
-use lib.Dec.{leb, ltb, eqb}
+use lib.Dec.{leb, eqb}
 use lib.ListN.{length, take, drop, get_or, length-drop}
 use lib.Seq.{length-take-le}
 use borrow.Author.Tests.{eq-eqb, ne_eqb, eqb-true, eqb-false, le-leb, leb-true, lt-ltb, ltb-true, not-true}
@@ -26,25 +26,21 @@ use Rattle.descriptor.proofs.Segmentations.{front_is, head_is}
 use Rattle.descriptor.specs.Descriptor.{segmentation_of, cuei, is_cuei, descriptor_of}
 use Rattle.descriptor.specs.Segmentation.{Moded, ListedFront, Head, mode, duration, fields_before, written_upid, front, back, head}
 use Rattle.descriptor.specs.declared.Descriptor.TheVariants.{Segmentation}
-use Rattle.descriptor.specs.declared.DescriptorRead.{DescriptorRead}
 use Rattle.descriptor.specs.declared.DescriptorRead.TheVariants as read
-use Rattle.descriptor.specs.declared.segmentation.DescriptorDetail.{DescriptorDetail}
 use Rattle.descriptor.specs.declared.segmentation.DescriptorDetail.TheVariants.{Active}
 use Rattle.descriptor.specs.declared.segmentation.SegmentationDescriptor.{SegmentationDescriptor}
 use Rattle.descriptor.specs.declared.segmentation.SegmentationDetail.{SegmentationDetail}
 use Rattle.descriptor.specs.declared.segmentation.SegmentationDuration.{SegmentationDuration}
 use Rattle.descriptor.specs.declared.segmentation.SegmentationMode.{SegmentationMode}
 use Rattle.descriptor.specs.declared.segmentation.SegmentationUpid.{SegmentationUpid}
-use Rattle.descriptor.specs.declared.segmentation.SubSegments.{SubSegments}
 use Rattle.descriptor_loop.proofs.Lists.{items_none}
 use Rattle.descriptor_loop.proofs.Steps.{step_complete}
-use Rattle.descriptor_loop.specs.Items.{item_at, read_at, complete_at, step_of, Listed, items_of}
-use Rattle.descriptor_loop.specs.declared.Item.{Item}
+use Rattle.descriptor_loop.specs.Items.{item_at, read_at, complete_at, Listed, items_of}
 use Rattle.descriptor_loop.specs.declared.Step.{Step}
-use Rattle.relabel_payload.proofs.Payloads.{Of, Parsed, parsed, assemble}
+use Rattle.relabel_payload.proofs.Payloads.{Of, parsed, assemble}
 use Rattle.relabel_payload.specs.Payload.{upid_head}
 use Rattle.relabel_found.specs.Found.{begins, is_active, found, payload_at, type_in, size_in, upid_in, post_at, titled, complete, spots}
-use Rattle.relabel_found.proofs.Actives.{ActiveAt, active_at_lem, begun, byte_in}
+use Rattle.relabel_found.proofs.Actives.{active_at_lem, begun, byte_in}
 use Rattle.relabel_found.proofs.Walks.{found_some}
 
 -- ---- what `complete` says

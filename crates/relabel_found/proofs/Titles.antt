@@ -1,20 +1,20 @@
 -- What `is_titled`, `is_complete` and `spots_active` answer, case by case.
 use Prim.Native.Nat.{ℕ, ◌+◌, ◌*◌, ◌-◌, ◌/◌, ◌%◌, ◌≤◌, ◌<◌}
-use mathlib.Core.Bool.{Bool, true, false, not, ◌&&◌}
+use mathlib.Core.Bool.{Bool, true, false}
 use mathlib.Core.List.{List, [], ◌∷◌}
-use mathlib.Core.Path.{◌≡◌, refl, ap, ap₂, sym, ◌∙◌}
+use mathlib.Core.Path.{◌≡◌, ap, sym, ◌∙◌}
 use native.Mathlib.Omega.{arith}
-use lib.Dec.{ltb, leb, eqb}
+use lib.Dec.{ltb, eqb}
 use lib.ListN.{length, take, drop, get_or}
 use lib.Seq.{get_or-take, get_or-drop}
 use borrow.Author.Tests.{le-leb, lt-leb, eq-eqb, ne_eqb}
-use Rattle.descriptor.specs.Descriptor.{cuei, is_cuei}
+use Rattle.descriptor.specs.Descriptor.{is_cuei}
 use Rattle.descriptor_loop.proofs.Lists.{items_none}
 use Rattle.descriptor_loop.specs.Items.{items_of}
 use Rattle.relabel_payload.specs.Payload.{upid_head}
 use Rattle.table.specs.Bits.{pick}
 use Rattle.upid.proofs.Laws.{by_cases}
-use Rattle.relabel_found.specs.Found.{begins, payload_at, size_in, post_at, titled, complete, spots}
+use Rattle.relabel_found.specs.Found.{begins, post_at, titled, complete, spots}
 
 -- ---- `is_titled`
 

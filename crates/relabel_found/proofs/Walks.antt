@@ -5,7 +5,7 @@
 --     found-..        whether the item is found
 --     head_is         the place of the UPID's head, of its parts
 use Prim.Native.Nat.{ℕ, zero, suc, ◌+◌, ◌*◌, ◌-◌, ◌/◌, ◌%◌, ◌≤◌, ◌<◌}
-use mathlib.Core.Bool.{Bool, true, false, ◌&&◌, ◌||◌}
+use mathlib.Core.Bool.{Bool, true, false, ◌||◌}
 use mathlib.Core.List.{List, [], ◌∷◌, ◌++◌}
 use mathlib.Core.Path.{◌≡◌, refl, ap, sym, ◌∙◌}
 use native.Mathlib.Omega.{arith}
@@ -13,7 +13,7 @@ use lib.Dec.{eqb}
 use lib.ListN.{length, get_or}
 use borrow.Author.Tests.{eq-eqb, ne_eqb, eqb-true}
 use Rattle.table.proofs.Lists.{zero_one}
-use Rattle.descriptor_loop.proofs.Lists.{rest, rest_end, rest_more, items_rest, items_none}
+use Rattle.descriptor_loop.proofs.Lists.{rest, rest_end, rest_more, items_rest}
 use Rattle.descriptor_loop.proofs.Steps.{step_small, step_complete, turn, forward, within}
 use Rattle.descriptor_loop.specs.Items.{complete_at, step_of, Listed, listed, items_of}
 use Rattle.descriptor_loop.specs.declared.Step.{Step}

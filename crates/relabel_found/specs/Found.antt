@@ -1,5 +1,5 @@
 -- Where an identifier stands that is to be replaced: an item of a loop, and the UPID in its payload.
-use Rattle.std.specs.Prelude.{ℕ, ◌+◌, ◌-◌, Bool, true, false, not, ◌&&◌, ◌||◌, List, [], ◌∷◌, ltb, leb, eqb, length, take, drop, get_or}
+use Rattle.std.specs.Prelude.{ℕ, ◌+◌, ◌-◌, Bool, false, not, ◌&&◌, ◌||◌, List, [], ◌∷◌, ltb, leb, eqb, length, take, drop, get_or}
 use Rattle.descriptor.specs.Descriptor.{is_cuei}
 use Rattle.descriptor.specs.Segmentation.{cancelled}
 use Rattle.descriptor.specs.Full.{of_segmentation}

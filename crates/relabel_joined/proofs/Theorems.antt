@@ -1,19 +1,14 @@
 -- The laws of the four levels, joined: what is asked of the result, but for the code.
-use Prim.Native.Nat.{ℕ, zero, suc, ◌+◌, ◌≤◌, ◌<◌}
+use Prim.Native.Nat.{ℕ, zero, suc, ◌≤◌, ◌<◌}
 use mathlib.Core.List.{List, ◌∷◌, ◌++◌}
-use mathlib.Core.Path.{◌≡◌, refl, sym, ap, subst, ◌∙◌}
+use mathlib.Core.Path.{◌≡◌, refl, sym, subst}
 use native.Mathlib.Omega.{arith}
-use lib.ListN.{length, get_or}
+use lib.ListN.{length}
 use Rattle.table.specs.Writing.{made}
 use Rattle.upid.specs.Upid.{check_of, upid_of}
 use Rattle.upid.specs.Private.{Accepted}
 use Rattle.upid.specs.declared.UpidRead.{UpidRead}
 use Rattle.upid.specs.declared.UpidRead.TheVariants.{Fine, Refused}
-use Rattle.descriptor.specs.Descriptor.{segmentation_of}
-use Rattle.descriptor.specs.declared.Descriptor.TheVariants.{Segmentation}
-use Rattle.descriptor.specs.declared.DescriptorRead.TheVariants.{Is}
-use Rattle.descriptor.specs.declared.segmentation.SegmentationDescriptor.{SegmentationDescriptor}
-use Rattle.descriptor.specs.declared.segmentation.DescriptorDetail.TheVariants.{Active}
 use Rattle.descriptor.specs.declared.segmentation.SegmentationDetail.{SegmentationDetail}
 use Rattle.descriptor_loop.specs.Items.{Listed, items_of}
 use Rattle.section.specs.Section.{loop_bytes, section_of}
@@ -24,7 +19,6 @@ use Rattle.relabel_loop.proofs.Theorems.{every_other_item_stays, of_the_item_onl
 use Rattle.relabel_payload.specs.Payload.{payload, Holed}
 use Rattle.relabel_section.proofs.Frames.{new_loop_fits, old_loop_fits}
 use Rattle.relabel_section.proofs.Theorems.{header_and_command_stay}
-use Rattle.relabel_upid.specs.Kept.{Relabelled}
 use Rattle.relabel_upid.specs.Relabel.{upid_made}
 use Rattle.relabel_upid.proofs.Theorems.{every_other_identifier_stays, the_upid_itself}
 use Rattle.relabel_joined.specs.Relabel.{type_then, item_then, relabelled, Kept}

@@ -1,22 +1,21 @@
 -- What is made by `relabel_made`, taken apart.
-use Prim.Native.Nat.{ℕ, zero, suc, ◌+◌, ◌-◌, ◌≤◌, ◌<◌}
+use Prim.Native.Nat.{ℕ, ◌+◌, ◌≤◌, ◌<◌}
 use mathlib.Core.Bool.{Bool, true, false, ◌&&◌}
-use mathlib.Core.List.{List, ◌∷◌, ◌++◌}
-use mathlib.Core.Path.{◌≡◌, refl, ap, ap₂, sym, subst, ◌∙◌}
+use mathlib.Core.List.{List}
+use mathlib.Core.Path.{◌≡◌, refl, ap₂, sym, subst, ◌∙◌}
 use native.Mathlib.Omega.{arith}
-use borrow.Author.Tests.{leb-true, eqb-true}
+use borrow.Author.Tests.{leb-true}
 use lib.Dec.{leb, eqb}
-use lib.ListN.{length, get_or, drop}
-use Rattle.descriptor_loop.specs.Items.{Listed, listed, items_of}
+use lib.ListN.{length, get_or}
+use Rattle.descriptor_loop.specs.Items.{listed, items_of}
 use Rattle.relabel.proofs.Cuts.{loop_there}
-use Rattle.relabel.proofs.Mades.{Framing, framing}
+use Rattle.relabel.proofs.Mades.{framing}
 use Rattle.relabel.specs.Relabel.{payload_in, payload_then, section_then, fitting, loop_made, relabel_made}
 use Rattle.relabel_found.proofs.Actives.{ActiveAt, active_at_lem, begun, hole_at, byte_in, fore_in_lem, type_in_lem, upid_in_lem, post_in_lem, size_all}
 use Rattle.relabel_found.proofs.Walks.{Among, among}
-use Rattle.relabel_found.specs.Found.{found, fore_in, type_in, upid_in, post_in}
+use Rattle.relabel_found.specs.Found.{found, type_in, upid_in}
 use Rattle.relabel_joined.proofs.Theorems.{everything_else_stays}
-use Rattle.relabel_joined.specs.Relabel.{type_then, relabelled, Kept}
-use Rattle.relabel_payload.specs.Payload.{payload, Holed}
+use Rattle.relabel_payload.specs.Payload.{Holed}
 use Rattle.relabel_upid.specs.Relabel.{upid_made}
 use Rattle.section.specs.Section.{command_length, loop_length, loop_bytes, section_of, number_of}
 use Rattle.section.specs.declared.Refusal.{Refusal}

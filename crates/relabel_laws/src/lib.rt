@@ -1,3 +1,2 @@
 // The theorems of crate relabel.
 #![tactic(auto)]
-

@@ -2,22 +2,21 @@
 --     step_piece     the step over a whole item, whatever follows it
 --     items_first    the items of a loop: its first, and those of the rest
 --     replaced       one item replaced
-use Prim.Native.Nat.{ℕ, zero, suc, ◌+◌, ◌-◌, ◌≤◌, ◌<◌}
-use mathlib.Core.List.{List, [], ◌∷◌, ◌++◌, map, map-append, append_assoc, append-nil}
+use Prim.Native.Nat.{ℕ, ◌+◌, ◌-◌, ◌≤◌, ◌<◌}
+use mathlib.Core.List.{List, [], ◌∷◌, ◌++◌, map, append-nil}
 use mathlib.Core.Path.{◌≡◌, refl, ap, ap₂, sym, subst, ◌∙◌}
 use native.Mathlib.Omega.{arith}
-use lib.ListN.{length, take, drop, get_or, length-append, length-take, length-drop, take-append-drop, length-map}
-use lib.Seq.{take-append-le, drop-append-le, take_at, drop_at, take-append-add, drop-append-add, take-append_seam, drop-append_seam, length-take-le, drop-length}
+use lib.ListN.{length, take, drop, length-append, length-drop, take-append-drop}
+use lib.Seq.{take-append-le, drop-append-le, take_at, drop-append_seam, length-take-le}
 use Rattle.upid.proofs.Laws.{by_cases}
 use Rattle.descriptor.specs.Descriptor.{descriptor_of}
 use Rattle.descriptor.specs.Full.{identifier_read}
-use Rattle.descriptor.specs.declared.DescriptorRead.{DescriptorRead}
 use Rattle.descriptor_loop.specs.Items.{short, without_identifier, item_at, read_at, complete_at, step_of, Listed, listed, items_of}
 use Rattle.descriptor_loop.specs.declared.Step.{Step}
-use Rattle.descriptor_loop.proofs.Lists.{rest, rest_end, rest_more, items_rest, from_any}
-use Rattle.descriptor_loop.proofs.Steps.{step_small, step_complete, Turn, ends, goes, Stands, turn, forward, within}
-use Rattle.relabel_loop.specs.Loop.{moved_step, moved_listed, behind_item, with_item, Piece, OthersStay}
-use Rattle.relabel_loop.proofs.Moves.{listed_twice, map_twice, step_moved, items_moved}
+use Rattle.descriptor_loop.proofs.Lists.{rest, rest_end, rest_more, items_rest}
+use Rattle.descriptor_loop.proofs.Steps.{step_small, step_complete, turn, within}
+use Rattle.relabel_loop.specs.Loop.{moved_step, moved_listed, Piece}
+use Rattle.relabel_loop.proofs.Moves.{step_moved, items_moved}
 
 -- ---- the step over a piece
 

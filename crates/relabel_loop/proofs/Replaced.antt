@@ -4,15 +4,15 @@ use mathlib.Core.List.{List, [], ◌∷◌, ◌++◌, map, map-append, append_as
 use mathlib.Core.Path.{◌≡◌, refl, ap, ap₂, sym, subst, ◌∙◌}
 use native.Mathlib.Nat.{zero-add}
 use native.Mathlib.Omega.{arith}
-use lib.ListN.{length, take, drop, get_or, length-append, length-drop, take-append-drop, length-map}
+use lib.ListN.{length, take, drop, length-append, take-append-drop, length-map}
 use lib.Seq.{take-append-add, drop-append-add, drop-append_seam, length-take-le, drop-length}
 use Rattle.upid.proofs.Laws.{by_cases}
 use Rattle.descriptor_loop.specs.Items.{step_of, Listed, listed, items_of}
 use Rattle.descriptor_loop.specs.declared.Step.{Step}
 use Rattle.descriptor_loop.proofs.Steps.{Turn, ends, goes, Stands, turn}
-use Rattle.relabel_loop.specs.Loop.{moved_step, moved_listed, behind_item, with_item, Piece, OthersStay}
+use Rattle.relabel_loop.specs.Loop.{moved_listed, behind_item, with_item, Piece, OthersStay}
 use Rattle.relabel_loop.proofs.Moves.{listed_twice, map_twice}
-use Rattle.relabel_loop.proofs.Pieces.{piece, step_of_small, step_of_complete, step_piece, items_first, items_empty, items_piece, still}
+use Rattle.relabel_loop.proofs.Pieces.{step_of_small, step_of_complete, step_piece, items_first, items_empty, items_piece, still}
 
 -- ---- a list that is a map, split
 

@@ -3,14 +3,12 @@ use Prim.Native.Nat.{ℕ, ◌+◌, ◌≤◌, ◌<◌}
 use mathlib.Core.List.{List, [], ◌∷◌, ◌++◌, append-nil}
 use mathlib.Core.Path.{◌≡◌, refl, ap, sym, ◌∙◌}
 use native.Mathlib.Omega.{arith}
-use lib.ListN.{length, take, drop, get_or, length-append}
+use lib.ListN.{length, length-append}
 use Rattle.upid.specs.Upid.{check_of}
 use Rattle.upid.specs.declared.UpidRead.TheVariants.{Fine}
 use Rattle.descriptor.specs.Descriptor.{cuei, is_cuei, reported_upid, segmentation_of, descriptor_of}
 use Rattle.descriptor.specs.Segmentation.{with_upid}
 use Rattle.descriptor.specs.declared.Descriptor.TheVariants.{Segmentation}
-use Rattle.descriptor.specs.declared.DescriptorRead.{DescriptorRead}
-use Rattle.descriptor.specs.declared.DescriptorRead.TheVariants as read
 use Rattle.descriptor.specs.declared.segmentation.DescriptorDetail.TheVariants.{Active}
 use Rattle.descriptor.specs.declared.segmentation.SegmentationDetail.{SegmentationDetail}
 use Rattle.descriptor_loop.specs.Items.{item_at, step_of}

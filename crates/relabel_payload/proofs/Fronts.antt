@@ -2,23 +2,22 @@
 --     split_front      the fields before the UPID, which read the same whatever UPID follows
 --     written_is       the UPID that was read, as bytes
 --     written_puts     any UPID in its place is read
-use Prim.Native.Nat.{ℕ, zero, suc, ◌+◌, ◌*◌, ◌-◌, ◌/◌, ◌%◌, ◌≤◌, ◌<◌}
-use mathlib.Core.Bool.{Bool, true, false, ◌&&◌}
-use mathlib.Core.List.{List, [], ◌∷◌, ◌++◌, append_assoc}
+use Prim.Native.Nat.{ℕ, suc, ◌+◌, ◌*◌, ◌/◌, ◌%◌, ◌≤◌, ◌<◌}
+use mathlib.Core.Bool.{Bool, true, ◌&&◌}
+use mathlib.Core.List.{List, ◌∷◌, ◌++◌}
 use mathlib.Core.Path.{◌≡◌, refl, ap, ap₂, sym, subst, ◌∙◌}
 use native.Mathlib.Omega.{arith}
-use lib.Dec.{eqb}
-use lib.ListN.{length, take, drop, get_or, length-append, length-take, length-drop, take-append-drop}
-use lib.Seq.{length-take-le, drop-cons, get_or-drop, get_or-append-add, get_or-append_seam, drop-drop}
-use Rattle.table.specs.Bits.{bits_of, field, AllBytes}
-use Rattle.table.specs.Table.{Table, done, inside, number, bit, reserved, part, list, got, short, parse, canonical}
+use lib.ListN.{length, take, drop, get_or, length-append, length-drop, take-append-drop}
+use lib.Seq.{length-take-le, drop-cons, get_or-append-add, get_or-append_seam}
+use Rattle.table.specs.Bits.{bits_of, field}
+use Rattle.table.specs.Table.{Table, inside, number, bit, reserved, part, list, got, parse, canonical}
 use Rattle.table.specs.declared.View.{View}
 use Rattle.table.proofs.Fields.{byte_field}
 use Rattle.table.proofs.Longer.{Blind}
 use Rattle.table.proofs.Steps.{reads_in, takes_in, canonical_inside, reads_number, reads_part, takes_number, takes_part}
 use Rattle.table.proofs.Swaps.{forward, swap, swap_form, EndsAt, ends_at, ends_inside, ends_pick, ends_list}
 use Rattle.descriptor.proofs.Longer.{blind_delivery, blind_mode, blind_duration}
-use Rattle.descriptor.specs.Segmentation.{ListedFront, Moded, Head, delivery_restrictions, component, blank_component, mode, duration, written_upid, parts, front, head, active_from, sub_segments, back}
+use Rattle.descriptor.specs.Segmentation.{ListedFront, Moded, delivery_restrictions, component, blank_component, mode, duration, written_upid, parts, front, head, active_from}
 use Rattle.descriptor.specs.declared.segmentation.DeliveryRestrictionFlags.{DeliveryRestrictionFlags}
 use Rattle.descriptor.specs.declared.segmentation.SegmentationDuration.{SegmentationDuration}
 use Rattle.descriptor.specs.declared.segmentation.SegmentationUpid.{SegmentationUpid}

@@ -1,17 +1,16 @@
 -- A segmentation payload is a hole that its UPID fills.
-use Prim.Native.Nat.{ℕ, zero, suc, ◌+◌, ◌*◌, ◌-◌, ◌/◌, ◌%◌, ◌≤◌, ◌<◌}
+use Prim.Native.Nat.{ℕ, ◌+◌, ◌*◌, ◌/◌, ◌%◌, ◌≤◌, ◌<◌}
 use mathlib.Core.Bool.{Bool, true, false, ◌&&◌}
-use mathlib.Core.List.{List, [], ◌∷◌, ◌++◌, append_assoc}
+use mathlib.Core.List.{List, ◌∷◌, ◌++◌, append_assoc}
 use mathlib.Core.Path.{◌≡◌, refl, ap, ap₂, sym, subst, ◌∙◌}
 use native.Mathlib.Omega.{arith}
 use lib.Dec.{eqb}
-use lib.ListN.{length, take, drop, get_or, length-append}
-use lib.Seq.{length-take-le, take_at, drop_at, drop-append-add, take-append_seam}
+use lib.ListN.{length, take, get_or, length-append}
+use lib.Seq.{length-take-le, drop-append-add, take-append_seam}
 use borrow.Author.Tests.{le-leb, eq-eqb, ne_eqb, eqb-true, eqb-false}
 use Rattle.table.specs.Bits.{pick, bits_of}
 use Rattle.table.specs.Lent.{viewed}
 use Rattle.table.specs.Table.{Table, number, remaining, Answer, got, short, parse, canonical, canonical_by, takes_all}
-use Rattle.table.specs.declared.View.{View}
 use Rattle.table.proofs.Bits.{bits_append, length_bits}
 use Rattle.table.proofs.Lists.{zero_one}
 use Rattle.table.proofs.Steps.{takes_in, canonical_inside}
@@ -25,8 +24,7 @@ use Rattle.descriptor.specs.Segmentation as table
 use Rattle.descriptor.specs.Segmentation.{ListedFront, Head, head, front, back, sub_segments, written_upid, active_from, with_upid, segmentation}
 use Rattle.descriptor.specs.Full.{filled, beside_in, beside_of}
 use Rattle.descriptor.specs.declared.Descriptor.TheVariants.{Segmentation}
-use Rattle.descriptor.specs.declared.DescriptorRead.{DescriptorRead}
-use Rattle.descriptor.specs.declared.DescriptorRead.TheVariants.{Is, Refused}
+use Rattle.descriptor.specs.declared.DescriptorRead.TheVariants.{Is}
 use Rattle.descriptor.specs.declared.segmentation.SegmentationDescriptor.{SegmentationDescriptor}
 use Rattle.descriptor.specs.declared.segmentation.DescriptorDetail.{DescriptorDetail}
 use Rattle.descriptor.specs.declared.segmentation.DescriptorDetail.TheVariants.{Cancel, Active}

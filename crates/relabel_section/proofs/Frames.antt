@@ -1,31 +1,29 @@
 -- A section with another loop is accepted, and reads the same but for its loop.
-use Prim.Native.Nat.{ℕ, zero, suc, ◌+◌, ◌*◌, ◌-◌, ◌/◌, ◌%◌, ◌^◌, ◌≤◌, ◌<◌}
-use mathlib.Core.Bool.{Bool, true, false, not}
+use Prim.Native.Nat.{ℕ, ◌+◌, ◌*◌, ◌-◌, ◌/◌, ◌%◌, ◌≤◌, ◌<◌}
+use mathlib.Core.Bool.{false, not}
 use mathlib.Core.List.{List, [], ◌∷◌, ◌++◌, append_assoc}
-use mathlib.Core.Path.{◌≡◌, refl, ap, ap₂, sym, subst, ◌∙◌}
+use mathlib.Core.Path.{◌≡◌, refl, ap, ap₂, sym, ◌∙◌}
 use native.Mathlib.Omega.{arith}
 use lib.Dec.{eqb, ltb}
 use lib.ListN.{length, take, drop, get_or, length-append, length-take, length-drop, take-append-drop, get_or-append}
-use lib.Seq.{length-take-le, take-append-le, drop-append-le, take_at, drop_at, drop-drop, get_or-append-add, get_or-drop, drop-append-add, take-append_seam, drop-cons}
-use borrow.Author.Tests.{le-ltb, ltb-false, le-leb, eqb-true, eqb-false, eq-eqb, not-false}
-use Rattle.command.specs.Command as command
+use lib.Seq.{length-take-le, take-append-le, drop-append-le, get_or-append-add, drop-append-add, take-append_seam}
+use borrow.Author.Tests.{le-ltb, ltb-false, le-leb}
 use Rattle.command.specs.Command.{command_of}
 use Rattle.command.specs.declared.CommandRead.{CommandRead}
 use Rattle.crc.specs.Crc.{crc_of, crc_bytes_of}
 use Rattle.crc.proofs.Laws.{crc_appended}
 use Rattle.header.specs.Header.{splice_header, header_read, header_of}
 use Rattle.header.specs.declared.header.HeaderRead.{HeaderRead}
-use Rattle.header.specs.declared.header.SpliceInfoHeader.{SpliceInfoHeader}
 use Rattle.header.proofs.Headers.{header_got}
-use Rattle.table.specs.Bits.{pick, bits_of, field, num, big_endian}
+use Rattle.table.specs.Bits.{bits_of, field, num, big_endian}
 use Rattle.table.specs.Lent.{viewed}
-use Rattle.table.specs.Table.{Table, number, bit, got, short, parse}
+use Rattle.table.specs.Table.{number, bit, parse}
 use Rattle.table.specs.declared.View.{View}
-use Rattle.table.proofs.Bits.{bits_append, length_bits, length_big_endian}
+use Rattle.table.proofs.Bits.{bits_append, length_bits}
 use Rattle.table.proofs.Fields.{field_in, field_byte}
 use Rattle.table.proofs.Lists.{zero_one}
 use Rattle.table.proofs.Longer.{Blind}
-use Rattle.section.specs.Section.{command_length, command_type, command_bytes, room_after, loop_length, loop_place, loop_bytes, frame_in, frame_of, moved_read, accepted, through, section_of, conditions, None}
+use Rattle.section.specs.Section.{command_length, command_type, command_bytes, room_after, loop_length, loop_place, loop_bytes, frame_in, frame_of, moved_read, accepted, section_of, conditions, None}
 use Rattle.section.specs.declared.Frame.{Frame}
 use Rattle.section.specs.declared.FrameRead.{FrameRead}
 use Rattle.section.specs.declared.Section.{Section}

@@ -1,13 +1,13 @@
 -- The same, byte by byte, of the two sections themselves.
 --     by_byte     from the cutting
-use Prim.Native.Nat.{ℕ, ◌+◌, ◌-◌, ◌≤◌, ◌<◌}
-use mathlib.Core.List.{List, [], ◌∷◌, ◌++◌, append_assoc}
+use Prim.Native.Nat.{ℕ, ◌+◌, ◌-◌, ◌<◌}
+use mathlib.Core.List.{List, ◌∷◌, ◌++◌, append_assoc}
 use mathlib.Core.Path.{◌≡◌, refl, ap, ap₂, sym, subst, ◌∙◌}
 use native.Mathlib.Omega.{arith}
 use lib.ListN.{length, take, drop, get_or, length-append, get_or-append}
 use lib.Seq.{take_at, drop_at, get_or-append_seam, get_or-append-add, drop-append-add, take-append_seam}
 use Rattle.crc.specs.Crc.{crc_bytes_of}
-use Rattle.relabel_trips.specs.Cutting.{head_at, length_bytes, NotIn, with_crc, CutAt, ByByte}
+use Rattle.relabel_trips.specs.Cutting.{head_at, with_crc, CutAt, ByByte}
 use Rattle.relabel_trips.specs.Named.{type_at, identifier_at}
 
 -- ---- a head of two bytes, an identifier, what stands after it, and the CRC, behind what stands before

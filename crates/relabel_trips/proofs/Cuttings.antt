@@ -13,13 +13,13 @@ use Rattle.descriptor.specs.Descriptor.{cuei}
 use Rattle.descriptor_loop.specs.Items.{listed}
 use Rattle.relabel.proofs.Mades.{Framing, framing}
 use Rattle.relabel.specs.Relabel.{payload_in, relabel_made}
-use Rattle.relabel_found.specs.Found.{fore_in, type_in, size_in, upid_in, post_in}
+use Rattle.relabel_found.specs.Found.{fore_in, type_in, upid_in, post_in}
 use Rattle.relabel_joined.specs.Relabel.{type_then}
 use Rattle.relabel_laws.specs.Result.{Result}
 use Rattle.relabel_loop.specs.Item.{segmentation_item}
 use Rattle.relabel_loop.specs.Loop.{behind_item, with_item}
 use Rattle.relabel_payload.specs.Payload.{payload, upid_head}
-use Rattle.relabel_section.specs.Frame.{header_and_command, spare_of, rest_with, body_with, section_with}
+use Rattle.relabel_section.specs.Frame.{header_and_command, spare_of, rest_with, body_with}
 use Rattle.section.specs.Section.{command_length, loop_length, loop_bytes}
 use Rattle.table.proofs.Bits.{length_big_endian}
 use Rattle.table.specs.Bits.{big_endian}
@@ -27,7 +27,7 @@ use Rattle.table.specs.Writing.{made}
 use Rattle.upid.proofs.Laws.{by_cases}
 use Rattle.upid.proofs.Tree.{all_map}
 use Rattle.upid.specs.Cover.{All, none, more}
-use Rattle.relabel_trips.specs.Cutting.{upid_place, lengths_within, head_at, byte_lengths, length_bytes, NotIn, with_crc, CutAt}
+use Rattle.relabel_trips.specs.Cutting.{upid_place, lengths_within, length_bytes, NotIn, with_crc, CutAt}
 use Rattle.relabel_trips.specs.Named.{type_at, identifier_at}
 use Rattle.relabel_trips.proofs.Frames as frames
 use Rattle.relabel_trips.proofs.Frames.{body_from, body_as, run_three, rest_is, checked, loop_same, loop_long, high_same}

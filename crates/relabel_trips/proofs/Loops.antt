@@ -2,10 +2,10 @@
 --     own_item_lem     the item's own bytes in its place
 --     pay_then_lem     the payload of the item that was put in
 --     again        a third item in its place
-use Prim.Native.Nat.{ℕ, suc, ◌+◌, ◌-◌, ◌≤◌, ◌<◌}
-use mathlib.Core.Bool.{Bool, true, false, ◌&&◌, ◌||◌}
+use Prim.Native.Nat.{ℕ, suc, ◌+◌, ◌-◌, ◌≤◌}
+use mathlib.Core.Bool.{Bool, true, false, ◌||◌}
 use mathlib.Core.List.{List, [], ◌∷◌, ◌++◌, append_assoc, append-nil}
-use mathlib.Core.Path.{◌≡◌, refl, ap, ap₂, sym, subst, ◌∙◌}
+use mathlib.Core.Path.{◌≡◌, refl, ap, ap₂, sym, ◌∙◌}
 use native.Mathlib.Omega.{arith}
 use borrow.Author.Tests.{eq-eqb}
 use lib.Dec.{eqb}
@@ -13,7 +13,6 @@ use lib.ListN.{length, take, drop, get_or, length-append, length-drop, take-appe
 use lib.Seq.{length-take-le, take_at, drop_at, drop-cons, drop-drop, drop-append-add, get_or-append-add, take-append_seam, get_or-append_seam}
 use Rattle.descriptor.specs.Descriptor.{cuei}
 use Rattle.descriptor_loop.specs.Items.{step_of, Listed, listed, items_of}
-use Rattle.descriptor_loop.specs.declared.Item.{Item}
 use Rattle.descriptor_loop.specs.declared.Step.{Step}
 use Rattle.relabel_found.proofs.Actives.{ActiveAt, active_at_lem}
 use Rattle.relabel_found.specs.Found.{begins, is_active, found, payload_at, fore_in, type_in, size_in, upid_in, post_in}

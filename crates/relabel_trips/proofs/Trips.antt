@@ -1,15 +1,14 @@
 -- There and back: the identifier that is there changes nothing, and what was there, put back, gives the old section.
-use Prim.Native.Nat.{ℕ, zero, suc, ◌+◌, ◌-◌, ◌≤◌, ◌<◌}
-use mathlib.Core.Bool.{Bool, true, false, ◌&&◌}
-use mathlib.Core.List.{List, ◌∷◌, ◌++◌}
+use Prim.Native.Nat.{ℕ, ◌+◌, ◌≤◌, ◌<◌}
+use mathlib.Core.Bool.{true}
+use mathlib.Core.List.{List}
 use mathlib.Core.Path.{◌≡◌, refl, ap, ap₂, sym, subst, ◌∙◌}
 use native.Mathlib.Omega.{arith}
 use borrow.Author.Tests.{le-leb}
-use lib.Dec.{leb}
 use lib.ListN.{length, get_or}
-use Rattle.descriptor_loop.specs.Items.{listed, items_of}
+use Rattle.descriptor_loop.specs.Items.{listed}
 use Rattle.relabel.proofs.Cuts.{loop_there}
-use Rattle.relabel.proofs.Mades.{Framing, framing, section_accepted}
+use Rattle.relabel.proofs.Mades.{framing, section_accepted}
 use Rattle.relabel.specs.Relabel.{payload_in, payload_then, section_then, fitting, loop_made, relabel_made}
 use Rattle.relabel_found.proofs.Actives.{ActiveAt, active_at_lem, hole_at, byte_in, fore_in_lem, type_in_lem, upid_in_lem, post_in_lem, size_all}
 use Rattle.relabel_found.specs.Found.{is_active, found, payload_at, fore_in, type_in, size_in, upid_in, post_in}
@@ -17,19 +16,18 @@ use Rattle.relabel_joined.specs.Relabel.{type_then, item_then}
 use Rattle.relabel_laws.proofs.Results.{result}
 use Rattle.relabel_laws.specs.Result.{Result}
 use Rattle.relabel_loop.specs.Item.{segmentation_item}
-use Rattle.relabel_loop.specs.Loop.{moved_item, moved_listed, with_item}
+use Rattle.relabel_loop.specs.Loop.{moved_item, with_item}
 use Rattle.relabel_payload.specs.Payload.{payload, upid_head, Holed}
 use Rattle.relabel_section.specs.Frame.{section_with}
 use Rattle.relabel_upid.specs.Relabel.{upid_made}
 use Rattle.section.specs.Section.{command_length, loop_length, loop_bytes, section_of}
 use Rattle.section.specs.declared.Section.{Section}
 use Rattle.section.specs.declared.SectionRead.{SectionRead}
-use Rattle.table.specs.Bits.{pick}
-use Rattle.table.specs.Writing.{Made, made, refused}
+use Rattle.table.specs.Writing.{made}
 use Rattle.transport_packet.specs.Sections.{Right}
 use Rattle.upid.specs.Private.{Accepted}
 use Rattle.upid.specs.Upid.{check_of}
-use Rattle.relabel_trips.specs.Named.{HasPart, Named, type_at, identifier_at}
+use Rattle.relabel_trips.specs.Named.{Named, type_at, identifier_at}
 use Rattle.relabel_trips.proofs.Frames.{twice, set_right, own_size, own, new_loop_short}
 use Rattle.relabel_trips.proofs.Loops.{pay_short, own_item_lem, pay_then_lem, found_then, again, fore_then, type_then_lem, upid_then_lem, post_then}
 use Rattle.relabel_trips.proofs.Upids.{was_there, same_upid, back_upid, type_back, type_same}

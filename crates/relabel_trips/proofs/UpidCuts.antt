@@ -4,7 +4,7 @@
 use Prim.Native.Nat.{ℕ, zero, suc, ◌+◌, ◌-◌, ◌≤◌, ◌<◌}
 use mathlib.Core.Bool.{Bool, true, false}
 use mathlib.Core.List.{List, [], ◌∷◌, ◌++◌, append-nil}
-use mathlib.Core.Path.{◌≡◌, refl, ap, ap₂, sym, subst, ◌∙◌}
+use mathlib.Core.Path.{◌≡◌, refl, ap, sym, subst, ◌∙◌}
 use native.Mathlib.Omega.{arith}
 use lib.ListN.{length, take, drop, get_or, set, length-append, length-set, length-take, length-drop}
 use lib.Seq.{length-take-le, get_or-set_same}
@@ -22,9 +22,8 @@ use Rattle.upid.specs.Cover.{All, none, more, Ascending, nothing, before}
 use Rattle.upid.specs.Private.{Accepted}
 use Rattle.upid.specs.Upid.{check_of, upid_of, parts_in}
 use Rattle.upid.specs.declared.Part.{Part}
-use Rattle.upid.specs.declared.PartList.{PartList}
 use Rattle.relabel_trips.specs.Cutting.{head_within, lengths_around, lengths_within, NotIn}
-use Rattle.relabel_trips.specs.Named.{HasPart, type_within, identifier_within}
+use Rattle.relabel_trips.specs.Named.{type_within, identifier_within}
 use Rattle.relabel_trips.proofs.Upids.{same_upid}
 
 -- ---- lists of places

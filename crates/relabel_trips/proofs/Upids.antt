@@ -1,14 +1,13 @@
 -- The UPID: the identifier that is there put where it is, and put back.
-use Prim.Native.Nat.{ℕ, zero, suc, ◌+◌, ◌-◌, ◌≤◌, ◌<◌}
+use Prim.Native.Nat.{ℕ, zero, suc, ◌≤◌, ◌<◌}
 use mathlib.Core.Bool.{Bool, true, false, not, ◌||◌}
 use mathlib.Core.List.{List}
-use mathlib.Core.Path.{◌≡◌, refl, ap, ap₂, sym, subst, ◌∙◌}
+use mathlib.Core.Path.{◌≡◌, refl, ap, sym, subst, ◌∙◌}
 use native.Mathlib.Omega.{arith}
 use borrow.Author.Tests.{eqb-false}
 use lib.Dec.{eqb}
 use lib.ListN.{length}
 use Rattle.relabel_joined.specs.Relabel.{type_then}
-use Rattle.relabel_laws.proofs.Results.{picked}
 use Rattle.relabel_upid.proofs.Answers.{taken_accepted, accepted_taken, has_parts, made_able}
 use Rattle.relabel_upid.proofs.Theorems.{every_other_identifier_stays, the_same_identifier_changes_nothing, the_upid_itself}
 use Rattle.relabel_upid.proofs.Turns.{fine_bytes, top_made_lem}
@@ -18,7 +17,7 @@ use Rattle.table.specs.Bits.{pick}
 use Rattle.table.specs.Writing.{Made, made, refused}
 use Rattle.upid.proofs.Walks.{check_short}
 use Rattle.upid.specs.Private.{Accepted}
-use Rattle.upid.specs.Upid.{read_of, check_of, upid_of}
+use Rattle.upid.specs.Upid.{check_of, upid_of}
 use Rattle.relabel_trips.specs.Named.{HasPart, type_within, identifier_within}
 
 -- ---- the UPID itself

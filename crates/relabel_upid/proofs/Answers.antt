@@ -1,5 +1,5 @@
 -- From holes to the public definitions, for the statements in Theorems.antt.
-use Prim.Native.Nat.{ℕ, zero, suc, ◌+◌, ◌-◌, ◌≤◌, ◌<◌}
+use Prim.Native.Nat.{ℕ, suc, ◌+◌, ◌-◌, ◌≤◌, ◌<◌}
 use mathlib.Core.Path.{◌≡◌, refl, sym, ap, ap₂, subst, ◌∙◌}
 use mathlib.Core.Bool.{Bool, true, false, not, ◌||◌}
 use mathlib.Core.List.{List, [], ◌∷◌, ◌++◌, map, append_assoc, append-nil}
@@ -7,9 +7,9 @@ use native.Mathlib.Omega.{arith}
 use lib.Dec.{eqb, leb, ltb}
 use lib.ListN.{length, take, drop, get_or, length-append, length-map}
 use lib.Seq.{take_at, drop_at, get_or_at, take-append_seam}
-use borrow.Author.Tests.{eqb-true, eqb-false, le-ltb, lt-ltb, le-leb, lt-leb, ltb-false, leb-false, ne_eqb}
+use borrow.Author.Tests.{eqb-true, eqb-false, le-ltb, lt-leb, ltb-false, leb-false}
 use Rattle.table.specs.Bits.{pick}
-use Rattle.table.specs.Writing.{Made, made, refused}
+use Rattle.table.specs.Writing.{made, refused}
 use Rattle.upid.specs.Cover.{Cut, bytes_of}
 use Rattle.upid.specs.Upid.{read_of, check_of, list_of, reported_of, upid_of, parts_in}
 use Rattle.upid.specs.Private.{Accepted}
@@ -22,7 +22,7 @@ use Rattle.upid.proofs.Walks.{check_mid, check_short}
 use Rattle.relabel_upid.specs.Hole.{Hole, headed, filled}
 use Rattle.relabel_upid.specs.Kept.{Identifier, identifiers_in, identifiers_at, inside_of, after_part, identifiers_then, widened, moved, renewed, parts_then, written_type, Relabelled}
 use Rattle.relabel_upid.specs.Relabel.{instead, mended, spliced, part_at, replaced_in, replaced, taken, top_made, part_made, upid_made}
-use Rattle.relabel_upid.proofs.Holes.{level_at, start_at, recorded, inner, before, behind, list_filled, AcceptedBeside, AcceptedCut, accepted_filled, Found, find, prior, back, cut_filled, length_prior, length_filled}
+use Rattle.relabel_upid.proofs.Holes.{level_at, start_at, inner, before, behind, list_filled, AcceptedBeside, AcceptedCut, accepted_filled, Found, find, prior, back, cut_filled, length_prior, length_filled}
 use Rattle.relabel_upid.proofs.Places.{spot, mend_prior, before_widened, behind_moved}
 use Rattle.relabel_upid.proofs.Told.{told_append, same_before, same_behind, reported_list, told_own}
 

@@ -18,7 +18,7 @@ use Rattle.upid.specs.Upid.{read_of, list_of}
 use Rattle.upid.specs.declared.Part.{Part}
 use Rattle.upid.specs.declared.UpidRead.{UpidRead}
 use Rattle.upid.specs.declared.Refusal.{Refusal}
-use Rattle.upid.specs.declared.UpidRead.TheVariants.{Fine, Refused}
+use Rattle.upid.specs.declared.UpidRead.TheVariants.{Refused}
 use Rattle.upid.proofs.Laws.{read_one, read_more, list_nil, list_more, then_both, accepted_mid, list_mid, list_plain, by_cases}
 use Rattle.upid.specs.Upid.{blank_part}
 use Rattle.relabel_upid.specs.Private.{heads, nth, next_head, Walkable, Headed}

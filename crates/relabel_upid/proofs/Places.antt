@@ -1,6 +1,6 @@
 -- The parts before a hole and those after it, where another piece fills it: what the positions of specs/Relabel.antt come to.
-use Prim.Native.Nat.{ℕ, zero, suc, ◌+◌, ◌-◌, ◌≤◌, ◌<◌}
-use mathlib.Core.Path.{◌≡◌, refl, sym, ap, ap₂, subst, ◌∙◌}
+use Prim.Native.Nat.{ℕ, zero, suc, ◌+◌, ◌-◌, ◌≤◌}
+use mathlib.Core.Path.{◌≡◌, refl, sym, ap, ap₂, ◌∙◌}
 use mathlib.Core.Bool.{Bool, true, false, cond as pick}
 use mathlib.Core.List.{List, [], ◌∷◌, ◌++◌, map, map-append, append_assoc}
 use native.Mathlib.Omega.{arith}
@@ -18,7 +18,7 @@ use Rattle.upid.proofs.Tree.{all_append, all_map}
 use Rattle.relabel_upid.specs.Hole.{Hole, here, inside, past, headed, filled}
 use Rattle.relabel_upid.specs.Kept.{widened, moved}
 use Rattle.relabel_upid.specs.Relabel.{instead, around, mended}
-use Rattle.relabel_upid.proofs.Holes.{level_at, start_at, recorded, inner, before, behind, AcceptedBeside, AcceptedCut, prior, back, length_prior, length_filled}
+use Rattle.relabel_upid.proofs.Holes.{level_at, start_at, recorded, inner, before, behind, AcceptedBeside, AcceptedCut, prior, length_prior, length_filled}
 
 -- ---- the parts of what is accepted lie in it
 

@@ -1,13 +1,12 @@
 -- Worked rows: the incident in general, and rows in bytes.
-use Prim.Native.Nat.{ℕ, zero, suc, ◌+◌, ◌-◌, ◌≤◌, ◌<◌}
+use Prim.Native.Nat.{ℕ, ◌+◌, ◌-◌, ◌≤◌, ◌<◌}
 use mathlib.Core.Path.{◌≡◌, refl, sym, ap, ap₂, subst, ◌∙◌}
-use mathlib.Core.Bool.{Bool, true, false, cond as pick}
-use mathlib.Core.List.{List, [], ◌∷◌, ◌++◌, append-nil}
+use mathlib.Core.Bool.{Bool, cond as pick}
+use mathlib.Core.List.{List, [], ◌∷◌, ◌++◌}
 use native.Mathlib.Omega.{arith}
-use lib.Dec.{eqb}
-use lib.ListN.{length, take, drop, get_or, replicate, length-append}
+use lib.ListN.{length, drop, get_or, replicate, length-append}
 use lib.Seq.{drop_at, get_or_at}
-use borrow.Author.Tests.{eqb-true, eqb-false, ne_eqb}
+use borrow.Author.Tests.{ne_eqb}
 use Rattle.table.specs.Writing.{Made, made, refused}
 use Rattle.upid.specs.Cover.{bytes_of}
 use Rattle.upid.specs.Text.{text_of, done, step, within}
@@ -16,7 +15,7 @@ use Rattle.upid.specs.Private.{Accepted}
 use Rattle.upid.specs.declared.Part.{Part}
 use Rattle.upid.proofs.Laws.{list_plain}
 use Rattle.upid.proofs.Theorems.{eight_and_twelve_lem}
-use Rattle.relabel_upid.specs.Kept.{Identifier, told, identifiers_in, identifiers_of, identifiers_at, identifiers_then, inside_of, after_part}
+use Rattle.relabel_upid.specs.Kept.{told, identifiers_in, identifiers_of, identifiers_at, identifiers_then, inside_of}
 use Rattle.relabel_upid.specs.Relabel.{instead, around, mended, spliced, part_at, replaced_in, taken, top_made, part_made, upid_made}
 use Rattle.relabel_upid.proofs.Answers.{Able, able_made, accepted_taken, relabelled_made}
 use Rattle.relabel_upid.proofs.Told.{reported_other}

@@ -25,7 +25,7 @@ use Rattle.relabel_upid.specs.Hole.{Hole, here, inside, past, filled}
 use Rattle.relabel_upid.specs.Relabel.{instead, around, mended, spliced, part_at, replaced_in, taken, top_made, part_made, upid_made}
 use Rattle.relabel_upid.specs.Private.{heads, nth, next_head, Walkable, Mends, Mendable, Ahead, Storable}
 use Rattle.relabel_upid.proofs.Answers.{part_is, take_is, taken_accepted, has_parts}
-use Rattle.relabel_upid.proofs.Holes.{start_at, recorded, inner, before, AcceptedBeside, Found, find, length_prior, length_filled}
+use Rattle.relabel_upid.proofs.Holes.{start_at, recorded, before, AcceptedBeside, Found, find, length_prior, length_filled}
 use Rattle.relabel_upid.proofs.Places.{lies_in_lem, spot}
 use Rattle.relabel_upid.proofs.Heads.{Rest, not_yet, told, complete, onward}
 use Rattle.relabel_upid.proofs.Turns.{mends_one, mended_on, mended_off, mended_length, mended_append, top_none, top_refused, part_none, part_long, part_unfit, part_made_lem}

@@ -1,13 +1,13 @@
 -- What is told of the identifiers beside a hole does not depend on what fills it.
-use Prim.Native.Nat.{ℕ, zero, suc, ◌+◌, ◌-◌, ◌≤◌, ◌<◌}
+use Prim.Native.Nat.{ℕ, zero, suc, ◌+◌, ◌-◌, ◌≤◌}
 use mathlib.Core.Path.{◌≡◌, refl, sym, ap, ap₂, subst, ◌∙◌}
 use mathlib.Core.Bool.{Bool, true, false, cond as pick}
 use mathlib.Core.List.{List, [], ◌∷◌, ◌++◌, append_assoc, append-nil}
 use native.Mathlib.Omega.{arith}
 use lib.Dec.{eqb}
-use lib.ListN.{length, take, drop, get_or, length-append, length-take, length-drop}
+use lib.ListN.{length, take, drop, get_or, length-take, length-drop}
 use lib.Seq.{take-append_seam, drop-append_seam, get_or-drop}
-use borrow.Author.Tests.{lt-ltb, le-ltb, eqb-true, eqb-false, eq-eqb, ne_eqb}
+use borrow.Author.Tests.{lt-ltb, eqb-true, eqb-false, ne_eqb}
 use Rattle.upid.specs.Cover.{Cut}
 use Rattle.upid.specs.Upid.{read_of, list_of, reported_of}
 use Rattle.upid.specs.Private.{Accepted}
@@ -16,7 +16,7 @@ use Rattle.upid.proofs.Cutting.{after_head, after_part_lem}
 use Rattle.upid.proofs.Laws.{read_one, read_more, list_nil, list_more, list_plain, list_mid, accepted_mid, by_cases}
 use Rattle.relabel_upid.specs.Hole.{Hole, here, inside, past, headed, filled}
 use Rattle.relabel_upid.specs.Kept.{Identifier, told, identifiers_in, identifiers_at}
-use Rattle.relabel_upid.proofs.Holes.{level_at, start_at, recorded, inner, before, behind, AcceptedBeside, AcceptedCut, first, first_headed, both}
+use Rattle.relabel_upid.proofs.Holes.{recorded, inner, before, behind, AcceptedBeside, AcceptedCut, first, first_headed, both}
 
 pub told_append : (top : List ℕ) (xs ys : List Part) → identifiers_in top (xs ++ ys) ≡ identifiers_in top xs ++ identifiers_in top ys
 unfolding identifiers_in

@@ -10,7 +10,6 @@ use lib.Seq.{take_all}
 use borrow.Author.Tests.{lt-ltb, le-ltb, le-leb, ltb-false, eq-eqb, ne_eqb}
 use Rattle.command.specs.Command.{command_of}
 use Rattle.command.specs.declared.CommandRead.{CommandRead}
-use Rattle.command.specs.declared.Private.{Private}
 use Rattle.command.specs.declared.SpliceCommand.{SpliceCommand}
 use Rattle.command.proofs.Payloads.{private_behind}
 use Rattle.crc.specs.Crc.{crc_of}

@@ -22,7 +22,7 @@ use Rattle.section.specs.declared.Refusal.{Refusal}
 use Rattle.section.specs.declared.Section.{Section}
 use Rattle.section.specs.declared.SectionRead.{SectionRead}
 use Rattle.section.specs.declared.full.FullSection.{FullSection}
-use Rattle.section.proofs.Framing.{Framed, framed, command_viewed}
+use Rattle.section.proofs.Framing.{framed, command_viewed}
 
 -- ---- where an accepted section has its command
 abbrev place_of : SectionRead → View

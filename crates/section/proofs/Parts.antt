@@ -1,6 +1,5 @@
 -- What an accepted section has, part by part.
-use Prim.Native.Nat.{ℕ, ◌+◌, ◌-◌, ◌^◌, ◌%◌, ◌<◌, ◌≤◌}
-use mathlib.Core.Bool.{Bool, true, false, not}
+use Prim.Native.Nat.{ℕ, ◌+◌, ◌-◌, ◌≤◌}
 use mathlib.Core.List.{List}
 use mathlib.Core.Path.{◌≡◌, refl, ap, sym, ◌∙◌}
 use native.Mathlib.Omega.{arith}
@@ -19,7 +18,6 @@ use Rattle.section.specs.declared.SectionRead.{SectionRead}
 use Rattle.section.proofs.Acceptance.{none_if_accepted}
 use Rattle.section.proofs.Framing.{is_framed, has_parts, is_accepted}
 use Rattle.table.specs.Bits.{bits_of, field}
-use Rattle.table.specs.declared.View.{View}
 use Rattle.table.proofs.Lists.{zero_one}
 use Rattle.table.proofs.Reading.{field_exact}
 

@@ -1,8 +1,8 @@
 -- A section without a spare byte, whose first three bytes are right, is the frame of its own parts.
 --     opening_is       the first three bytes as a number
 --     frame_again      the section is what is made of its header, command and loop
-use Prim.Native.Nat.{ℕ, ◌+◌, ◌*◌, ◌-◌, ◌/◌, ◌^◌, ◌<◌, ◌≤◌}
-use mathlib.Core.List.{List, [], ◌∷◌, ◌++◌, append_assoc}
+use Prim.Native.Nat.{ℕ, ◌+◌, ◌-◌, ◌^◌, ◌<◌, ◌≤◌}
+use mathlib.Core.List.{List, [], ◌∷◌, ◌++◌}
 use mathlib.Core.Path.{◌≡◌, refl, ap, ap₂, sym, ◌∙◌}
 use native.Mathlib.Omega.{arith}
 use lib.Dec.{eqb}
@@ -17,7 +17,7 @@ use Rattle.header.proofs.Headers.{writable_header, header_got, header_read_write
 use Rattle.names.specs.Algorithm.{algorithm_of}
 use Rattle.names.specs.Command.{command_type_of}
 use Rattle.section.specs.Section.{command_length, command_type, command_bytes, loop_length, section_length}
-use Rattle.table.specs.Bits.{bits_of_num, bits_of, field, bytes_n, bytes_of, big_endian, AllBytes}
+use Rattle.table.specs.Bits.{bits_of, field, bytes_n, bytes_of, big_endian, AllBytes}
 use Rattle.table.specs.Table.{number, bit}
 use Rattle.table.specs.Writing.{walk, contents, print}
 use Rattle.table.proofs.Bits.{bits_join, bytes_num, length_bits, byte_in}

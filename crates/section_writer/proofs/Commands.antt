@@ -4,7 +4,7 @@
 use Prim.Native.Nat.{ℕ, ◌*◌}
 use mathlib.Core.Bool.{Bool, true, false}
 use mathlib.Core.List.{List, [], ◌∷◌, ◌++◌}
-use mathlib.Core.Path.{◌≡◌, refl, ap, sym, ◌∙◌}
+use mathlib.Core.Path.{◌≡◌, refl, ap, ◌∙◌}
 use native.Mathlib.Omega.{arith}
 use lib.Dec.{eqb}
 use lib.ListN.{length}
@@ -21,7 +21,7 @@ use Rattle.command.proofs.PrivateTrips.{moved, private_write_read, private_one}
 use Rattle.splice_time.specs.Time.{splice_time, not_immediate}
 use Rattle.splice_time.specs.declared.SpliceTime.{SpliceTime}
 use Rattle.splice_time.proofs.Times.{time_write_read, time_one}
-use Rattle.section_writer.specs.Private.{SameAnswers, SameBy, SameCommand}
+use Rattle.section_writer.specs.Private.{SameBy, SameCommand}
 use Rattle.table.specs.Bits.{pick, bits_of, AllBytes}
 use Rattle.table.specs.Table.{Table, Answer, got, short, parse, canonical, takes_all, canonical_by}
 use Rattle.table.specs.Writing.{Same, made, make}

@@ -27,7 +27,7 @@ use Rattle.table.specs.declared.View.{View}
 use Rattle.table.proofs.Lists.{and_true}
 use Rattle.table.proofs.Reading.{bits_are}
 use Rattle.canonical_form.specs.Section.{canonical_frame}
-use Rattle.section.proofs.Parts.{Parts, parts_of_lem}
+use Rattle.section.proofs.Parts.{parts_of_lem}
 
 module _ (s : List ℕ) where
   pub not_accepted : (r : Refusal) → section_of s ≡ SectionRead.Refused r → false ≡ canonical_frame s

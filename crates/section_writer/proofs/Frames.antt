@@ -3,15 +3,15 @@
 --     frame_header, frame_clear, frame_command_length, frame_command_type, frame_command_bytes
 --     frame_loop_length, frame_loop_place, frame_loop
 --     frame_accepted     so the section is accepted, and its reading is the header, the command and the loop
-use Prim.Native.Nat.{ℕ, ◌+◌, ◌*◌, ◌-◌, ◌/◌, ◌%◌, ◌^◌, ◌<◌, ◌≤◌}
-use mathlib.Core.Bool.{Bool, true, false}
-use mathlib.Core.List.{List, [], ◌∷◌, ◌++◌, append_assoc}
-use mathlib.Core.Path.{◌≡◌, refl, ap, ap₂, sym, ◌∙◌}
+use Prim.Native.Nat.{ℕ, ◌+◌, ◌*◌, ◌/◌, ◌^◌, ◌<◌, ◌≤◌}
+use mathlib.Core.Bool.{true, false}
+use mathlib.Core.List.{List, [], ◌++◌, append_assoc}
+use mathlib.Core.Path.{◌≡◌, refl, ap, sym, ◌∙◌}
 use native.Mathlib.Omega.{arith}
 use lib.Dec.{eqb}
-use lib.ListN.{length, get_or, take, drop, length-append, length-drop, get_or-append}
+use lib.ListN.{length, get_or, drop, length-append, length-drop, get_or-append}
 use lib.Seq.{take_at, drop_at, get_or-drop}
-use borrow.Author.Tests.{le-leb, eqb-false, eqb-true, ne_eqb}
+use borrow.Author.Tests.{le-leb, eqb-false}
 use Rattle.command.specs.Command as command
 use Rattle.command.specs.declared.CommandRead.{CommandRead}
 use Rattle.command.specs.declared.SpliceCommand.{SpliceCommand}
@@ -27,18 +27,16 @@ use Rattle.names.proofs.Commands.{command_laws}
 use Rattle.section.specs.Section.{command_length, command_type, command_bytes, loop_length, loop_place, frame_in, loop_bytes, moved, section_of, section_length}
 use Rattle.section.specs.declared.SectionRead.{SectionRead}
 use Rattle.section.proofs.Framing.{is_framed, has_parts, is_accepted, is_section}
-use Rattle.table.specs.Bits.{bits_of, field, bytes_of, big_endian, AllBytes}
+use Rattle.table.specs.Bits.{bits_of, field, big_endian, AllBytes}
 use Rattle.table.specs.Lent.{viewed}
 use Rattle.table.specs.Table.{got, parse}
 use Rattle.table.specs.Writing.{walk, contents, print}
-use Rattle.table.specs.declared.View.{View}
 use Rattle.table.proofs.Bits.{all_bytes_n, byte_in}
 use Rattle.table.proofs.Fields.{field_byte}
-use Rattle.table.proofs.Lists.{zero_one}
 use Rattle.table.proofs.Reading.{field_exact}
 use Rattle.table.proofs.Walks.{print_bits}
 use Rattle.section_writer.specs.Frame.{headed, header_bytes, opening, head, with_length, body, frame, numbers_fit, writable_head}
-use Rattle.section_writer.proofs.Heads.{Fitting, fitting, clear, header_is_made, length_header, length_opening, length_head}
+use Rattle.section_writer.proofs.Heads.{fitting, clear, header_is_made, length_header, length_opening, length_head}
 use Rattle.section_writer.proofs.Numbers.{number_at, field_behind}
 
 header_bytes_lem : (x : SpliceInfoHeader) → AllBytes (header_bytes x)

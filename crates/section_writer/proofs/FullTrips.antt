@@ -1,17 +1,16 @@
 -- A section with its command, written and read.
 --     command_write_read          what is written of a command reads as it, and is canonical
 --     full_section_write_read       what is written of a header, a command and a loop reads as them, and is canonical
-use Prim.Native.Nat.{ℕ, ◌+◌, ◌^◌, ◌<◌}
+use Prim.Native.Nat.{ℕ, ◌^◌, ◌<◌}
 use mathlib.Core.Bool.{Bool, true, false}
-use mathlib.Core.List.{List, [], ◌∷◌, ◌++◌}
-use mathlib.Core.Path.{◌≡◌, refl, ap, sym, ◌∙◌}
+use mathlib.Core.List.{List, []}
+use mathlib.Core.Path.{◌≡◌, refl, ap}
 use native.Mathlib.Omega.{arith}
 use Rattle.canonical_form.specs.Command.{canonical_command}
-use Rattle.command.specs.Command.{private, read, empty, command_of}
+use Rattle.command.specs.Command.{private, read, command_of}
 use Rattle.command.specs.Writable.{writable_insert}
 use Rattle.command.specs.Insert.{WithComponents, insert}
 use Rattle.command.specs.declared.CommandRead.{CommandRead}
-use Rattle.command.specs.declared.Private.{Private}
 use Rattle.command.specs.declared.SpliceCommand.{SpliceCommand}
 use Rattle.command.specs.declared.components.InsertComponent.{InsertComponent}
 use Rattle.command.specs.declared.insert.SpliceInsert.{SpliceInsert}
@@ -23,16 +22,14 @@ use Rattle.command_writer.proofs.Theorems.{insert_made_lem}
 use Rattle.splice_time.specs.Time.{splice_time, not_immediate}
 use Rattle.header.specs.declared.header.SpliceInfoHeader.{SpliceInfoHeader}
 use Rattle.splice_time.proofs.Times.{time_write_read}
-use Rattle.bit_stores.specs.Written.{refusal_in, bytes_in}
 use Rattle.section_writer.specs.Trips.{own_of, ReadsBack}
-use Rattle.table.specs.Bits.{pick, bits_of, bytes_of}
-use Rattle.table.specs.Table.{got, parse}
+use Rattle.table.specs.Bits.{pick, bytes_of}
 use Rattle.table.specs.Writing.{Field, seen, within, contents, print, walk, Made, made, refused, make_of, make}
 use Rattle.table.proofs.Lists.{append_nil, zero_one}
 use Rattle.section_writer.specs.Writing.{type_of, section_made}
 use Rattle.section_writer.proofs.Commands.{null_canonical, bandwidth_canonical, time_canonical, insert_canonical, private_canonical}
 use Rattle.section_writer.proofs.Theorems.{section_write_read, section_is_canonical}
-use Rattle.section_writer.proofs.Trips.{Wrote, section_wrote}
+use Rattle.section_writer.proofs.Trips.{section_wrote}
 
 -- an insert's places hold as many components as its mode says
 abbrev pub Held : SpliceCommand → List InsertComponent → Type 0

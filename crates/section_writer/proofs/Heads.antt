@@ -2,10 +2,10 @@
 --     header_is_made     the header's bytes are what its table writes
 --     length_header, length_opening, length_head
 --     fits_within        what refusal 32 asks, number by number
-use Prim.Native.Nat.{ℕ, ◌+◌, ◌*◌, ◌-◌, ◌/◌, ◌^◌, ◌<◌, ◌≤◌}
-use mathlib.Core.Bool.{Bool, true, false, not, ◌&&◌}
-use mathlib.Core.List.{List, [], ◌∷◌, ◌++◌, append_assoc}
-use mathlib.Core.Path.{◌≡◌, refl, ap, ap₂, sym, ◌∙◌}
+use Prim.Native.Nat.{ℕ, ◌^◌, ◌<◌}
+use mathlib.Core.Bool.{Bool, true, false, not}
+use mathlib.Core.List.{[]}
+use mathlib.Core.Path.{◌≡◌, refl, ◌∙◌}
 use native.Mathlib.Omega.{arith}
 use lib.Dec.{ltb}
 use lib.ListN.{length, length-append}
@@ -14,12 +14,9 @@ use Rattle.header.specs.Header.{splice_header}
 use Rattle.header.specs.declared.header.SpliceInfoHeader.{SpliceInfoHeader}
 use Rattle.header.proofs.Headers.{writable_header}
 use Rattle.names.specs.Algorithm.{algorithm_number, writable_algorithm}
-use Rattle.names.specs.Command.{command_number, command_type_of, writable_command}
 use Rattle.names.proofs.Commands.{command_laws}
-use Rattle.table.specs.Bits.{bits_of_num, bytes_of, big_endian}
 use Rattle.table.specs.Table.{flag_number, number, bit}
-use Rattle.table.specs.Writing.{walk, seen, within, contents, print, made, make}
-use Rattle.table.proofs.Bits.{length_bytes_n}
+use Rattle.table.specs.Writing.{walk, seen, within, made, make}
 use Rattle.table.proofs.Lists.{and_true}
 use Rattle.section_writer.specs.Frame.{headed, header_bytes, opening, head, numbers_fit, writable_head}
 use Rattle.section.specs.Section.{section_length}

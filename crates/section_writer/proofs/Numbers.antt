@@ -3,16 +3,16 @@
 --     number_bytes     and what is read there are the bytes themselves
 --     field_behind     a field of a list, in what is left when bytes are dropped
 --     field_front      and in what is kept when bytes are taken
-use Prim.Native.Nat.{ℕ, zero, suc, ◌+◌, ◌*◌, ◌-◌, ◌/◌, ◌^◌, ◌<◌, ◌≤◌}
-use mathlib.Core.List.{List, [], ◌∷◌, ◌++◌, append_assoc}
-use mathlib.Core.Path.{◌≡◌, refl, ap, sym, ◌∙◌}
+use Prim.Native.Nat.{ℕ, ◌+◌, ◌*◌, ◌/◌, ◌^◌, ◌<◌, ◌≤◌}
+use mathlib.Core.List.{List, ◌++◌, append_assoc}
+use mathlib.Core.Path.{◌≡◌, ap, sym, ◌∙◌}
 use native.Mathlib.Omega.{arith}
-use lib.ListN.{length, get_or, take, drop, length-append, length-drop, take-append-drop}
+use lib.ListN.{length, take, drop, length-drop, take-append-drop}
 use lib.Seq.{drop-drop, take_at, drop-append-le, take-append-le, length-take-le}
 use Rattle.bit_stores.proofs.Penned.{bits_number}
 use Rattle.table.specs.Bits.{num, bits_of_num, bits_of, field, bytes_n, bytes_of, big_endian, AllBytes}
 use Rattle.table.proofs.Structure.{bytes_take, bytes_drop}
-use Rattle.table.proofs.Bits.{all_bits, length_num, length_bits, length_big_endian, bits_append, bits_from, bytes_num, bytes_bits}
+use Rattle.table.proofs.Bits.{all_bits, length_num, length_bits, bits_append, bits_from, bytes_num, bytes_bits}
 use Rattle.table.proofs.Fields.{field_num, field_bits}
 
 pub number_at : (pre r : List ℕ) (q n v : ℕ) → length pre ≡ q → v < 2 ^ (n * 8) → field (bits_of (pre ++ (big_endian n v ++ r))) (q * 8) (n * 8) ≡ v

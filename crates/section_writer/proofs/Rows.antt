@@ -1,7 +1,7 @@
 -- The definitions on rows: the smallest section, whose bytes are widely published, and refusals in order of number.
 use Prim.Native.Nat.{ℕ}
 use mathlib.Core.Bool.{Bool, true, false}
-use mathlib.Core.List.{List, [], ◌∷◌}
+use mathlib.Core.List.{[], ◌∷◌}
 use mathlib.Core.Path.{◌≡◌, refl}
 use Rattle.crc.specs.Crc.{crc_bit, crc_bits, crc_of}
 use Rattle.canonical_form.specs.Descriptor.{canonical_from, canonical_loop}
@@ -11,9 +11,9 @@ use Rattle.names.specs.Algorithm.{writable_algorithm}
 use Rattle.names.specs.Command.{command_type_of}
 use Rattle.names.specs.declared.algorithm.EncryptionAlgorithm.{EncryptionAlgorithm}
 use Rattle.names.specs.declared.command.SpliceCommandType.{SpliceCommandType}
-use Rattle.bit_stores.specs.Written.{refusal_in, bytes_in}
+use Rattle.bit_stores.specs.Written.{bytes_in}
 use Rattle.table.specs.Table.{number, bit}
-use Rattle.table.specs.Writing.{Made, made, refused}
+use Rattle.table.specs.Writing.{made, refused}
 use Rattle.section_writer.specs.Frame.{headed, header_bytes, opening, head, with_length, body, frame, numbers_fit, writable_head}
 use Rattle.section_writer.specs.Writing.{section_made}
 

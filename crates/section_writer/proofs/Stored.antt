@@ -2,10 +2,10 @@
 --     is_fitting, not_fitting     the answer of the test for refusal 32
 --     head_stored, tail_stored    the stores before the command, and those behind it, as one
 use Prim.Native.Nat.{ℕ, ◌+◌, ◌*◌, ◌-◌, ◌/◌, ◌%◌, ◌^◌, ◌<◌, ◌≤◌}
-use mathlib.Core.Bool.{Bool, true, false, not, ◌&&◌}
-use mathlib.Core.List.{List, [], ◌∷◌, ◌++◌, append_assoc}
+use mathlib.Core.Bool.{Bool, true, false}
+use mathlib.Core.List.{List, [], ◌++◌, append_assoc}
 use mathlib.Core.Path.{◌≡◌, refl, ap, ap₂, sym, ◌∙◌}
-use native.Mathlib.Nat.{div-one, zero-add}
+use native.Mathlib.Nat.{div-one}
 use native.Mathlib.Omega.{arith}
 use lib.ListN.{length, take, drop, length-append}
 use lib.Seq.{take_at, length-take-le}
@@ -13,14 +13,12 @@ use Rattle.crc.specs.Crc.{crc_of, crc_bytes_of}
 use Rattle.header.specs.Header.{splice_header}
 use Rattle.header.specs.declared.header.SpliceInfoHeader.{SpliceInfoHeader}
 use Rattle.names.specs.Algorithm.{algorithm_number, writable_algorithm}
-use Rattle.names.specs.Command.{command_number, command_type_of}
 use Rattle.names.proofs.Commands.{command_laws}
 use Rattle.table.specs.Bits.{bits_of_num, bytes_of, big_endian}
 use Rattle.table.specs.Lent.{stored}
-use Rattle.table.specs.Table.{flag_number, number, bit}
+use Rattle.table.specs.Table.{number, bit}
 use Rattle.table.specs.Writing.{walk, contents, print}
-use Rattle.table.proofs.Bits.{bits_join, bytes_num, bytes_append, length_num, length_big_endian}
-use Rattle.table.proofs.Lists.{append_nil, zero_one}
+use Rattle.table.proofs.Bits.{bits_join, bytes_num, bytes_append, length_num}
 use Rattle.table.proofs.Stores.{stored_fits, stored_append}
 use Rattle.section_writer.specs.Frame.{headed, header_bytes, opening, head, with_length, body, frame, numbers_fit, writable_head}
 use Rattle.section.specs.Section.{section_length}

@@ -3,36 +3,33 @@
 --     section_write_read         and reads as what was handed in
 --     section_read_write    a canonical section is what is written of its reading
 --     section_one           canonical sections of equal readings are equal, where their loops have equal bytes
-use Prim.Native.Nat.{ℕ, ◌+◌, ◌^◌, ◌<◌, ◌≤◌}
-use mathlib.Core.Bool.{Bool, true, ◌&&◌}
+use Prim.Native.Nat.{ℕ, ◌+◌, ◌^◌, ◌<◌}
+use mathlib.Core.Bool.{true}
 use mathlib.Core.List.{List}
-use mathlib.Core.Path.{◌≡◌, refl, ap, sym, ◌∙◌}
-use native.Mathlib.Omega.{arith}
+use mathlib.Core.Path.{◌≡◌, ap, ◌∙◌}
 use lib.ListN.{length, drop}
 use Rattle.canonical_form.specs.Command.{canonical_command}
 use Rattle.command.specs.Command as command
 use Rattle.command.specs.declared.CommandRead.{CommandRead}
 use Rattle.command.specs.declared.SpliceCommand.{SpliceCommand}
 use Rattle.canonical_form.specs.Descriptor.{canonical_loop}
-use Rattle.header.specs.Header.{header_of}
-use Rattle.header.specs.declared.header.HeaderRead.{HeaderRead}
 use Rattle.header.specs.declared.header.SpliceInfoHeader.{SpliceInfoHeader}
 use Rattle.bit_stores.specs.Written.{bytes_in}
 use Rattle.section.specs.Section.{command_length, command_type, command_bytes, loop_bytes, moved, section_of}
 use Rattle.section.specs.declared.Section.{Section}
 use Rattle.section.specs.declared.SectionRead.{SectionRead}
-use Rattle.section_writer.specs.Private.{SameHeaders, SameAround}
+use Rattle.section_writer.specs.Private.{SameAround}
 use Rattle.table.specs.Bits.{AllBytes}
-use Rattle.table.specs.Writing.{Made, made}
+use Rattle.table.specs.Writing.{made}
 use Rattle.table.proofs.Lists.{and_true}
 use Rattle.table.proofs.Structure.{bytes_take, bytes_drop}
 use Rattle.canonical_form.specs.Section.{canonical_frame, canonical_section}
-use Rattle.section_writer.specs.Frame.{headed, frame}
+use Rattle.section_writer.specs.Frame.{headed}
 use Rattle.section_writer.specs.Writing.{section_made}
 use Rattle.section_writer.proofs.Commands.{command_one}
 use Rattle.section_writer.proofs.Frames.{frame_command_type, frame_command_bytes}
-use Rattle.section.proofs.Parts.{Parts, parts_of_lem}
-use Rattle.section_writer.proofs.Trips.{Wrote, section_wrote, frame_write_read, frame_read_write, frame_one}
+use Rattle.section.proofs.Parts.{parts_of_lem}
+use Rattle.section_writer.proofs.Trips.{section_wrote, frame_write_read, frame_read_write, frame_one}
 
 module _ (h : SpliceInfoHeader) (payload : List ℕ) (command_type' : ℕ) (loop b : List ℕ) (c : SpliceCommand) (byte : command_type' < 2 ^ 8)
     (e : section_made h (made payload) command_type' loop ≡ made b) (k : command.command_of command_type' payload ≡ CommandRead.Is c) where

@@ -5,21 +5,19 @@
 --     section_is_frame       a section whose frame is canonical is the frame of its parts
 --     frame_read_write     a canonical section is what is written of its reading
 --     frame_one            canonical sections of equal parts are equal
-use Prim.Native.Nat.{ℕ, zero, suc, ◌+◌, ◌*◌, ◌-◌, ◌/◌, ◌^◌, ◌<◌, ◌≤◌}
-use mathlib.Core.Bool.{Bool, true, false, not, ◌&&◌, ◌||◌}
-use mathlib.Core.List.{List, [], ◌∷◌, ◌++◌, append_assoc}
-use mathlib.Core.Path.{◌≡◌, refl, ap, ap₂, sym, ◌∙◌}
+use Prim.Native.Nat.{ℕ, zero, suc, ◌+◌, ◌*◌, ◌-◌, ◌^◌, ◌<◌, ◌≤◌}
+use mathlib.Core.Bool.{Bool, true, false, not, ◌||◌}
+use mathlib.Core.List.{List, [], ◌∷◌, ◌++◌}
+use mathlib.Core.Path.{◌≡◌, refl, ap, sym, ◌∙◌}
 use native.Mathlib.Omega.{arith}
 use lib.Dec.{eqb, ltb}
-use lib.ListN.{length, get_or, take, drop, length-drop}
-use borrow.Author.Tests.{ltb-false, le-ltb, eqb-false, eq-eqb, ne_eqb, not-false, le-leb}
+use lib.ListN.{length, take, drop}
+use borrow.Author.Tests.{ltb-false, eqb-false, eq-eqb, ne_eqb, not-false, le-leb}
 use Rattle.command.specs.Command as command
 use Rattle.command.specs.declared.CommandRead.{CommandRead}
 use Rattle.command.specs.declared.SpliceCommand.{SpliceCommand}
 use Rattle.canonical_form.specs.Descriptor.{canonical_loop}
-use Rattle.header.specs.declared.header.HeaderRead.{HeaderRead}
 use Rattle.header.specs.declared.header.SpliceInfoHeader.{SpliceInfoHeader}
-use Rattle.names.specs.Algorithm.{algorithm_number, algorithm_of}
 use Rattle.names.proofs.Algorithms.{algorithm_laws}
 use Rattle.bit_stores.specs.Written.{refusal_in, bytes_in}
 use Rattle.section.specs.Section.{first, command_length, command_type, command_bytes, loop_length, loop_place, loop_bytes, moved, section_of, number_of, section_length}
@@ -27,16 +25,16 @@ use Rattle.section.specs.declared.Section.{Section}
 use Rattle.section.specs.declared.SectionRead.{SectionRead}
 use Rattle.table.specs.Bits.{bits_of, field, big_endian, AllBytes}
 use Rattle.table.specs.Lent.{viewed}
-use Rattle.table.specs.Writing.{Made, made, refused}
+use Rattle.table.specs.Writing.{Made, made}
 use Rattle.table.proofs.Bits.{length_bits}
 use Rattle.table.proofs.Fields.{field_add}
 use Rattle.table.proofs.Lists.{zero_one}
 use Rattle.table.proofs.Reading.{field_lt}
 use Rattle.canonical_form.specs.Section.{canonical_frame}
-use Rattle.section_writer.specs.Frame.{headed, header_bytes, opening, head, with_length, body, frame, numbers_fit, writable_head}
+use Rattle.section_writer.specs.Frame.{headed, header_bytes, head, with_length, body, frame, numbers_fit, writable_head}
 use Rattle.section_writer.specs.Writing.{writer_conditions, unless, section_made}
-use Rattle.section_writer.proofs.Backs.{opening_is, frame_again, own, own_is, headed_own}
-use Rattle.section_writer.proofs.Forms.{Framed, framed}
+use Rattle.section_writer.proofs.Backs.{opening_is, frame_again, own, own_is}
+use Rattle.section_writer.proofs.Forms.{framed}
 use Rattle.section_writer.proofs.Frames.{crc, length_frame, behind_three, frame_loop, frame_accepted, frame_command_length, frame_loop_length}
 use Rattle.section_writer.proofs.Heads.{Fitting}
 use Rattle.section_writer.proofs.Numbers.{number_at, field_behind}

@@ -1,5 +1,5 @@
 -- The bytes of a section that is written. 01, "Section": three bytes of common header; 11 of splice header; command; 2 of loop length; loop; 4 of CRC.
-use Rattle.std.specs.Prelude.{ℕ, ◌+◌, ◌-◌, Bool, not, ◌&&◌, List, [], ◌∷◌, ◌++◌, length}
+use Rattle.std.specs.Prelude.{ℕ, ◌-◌, Bool, not, ◌&&◌, List, [], ◌∷◌, ◌++◌, length}
 use Rattle.crc.specs.Crc.{crc_bytes_of}
 use Rattle.header.specs.Header.{splice_header}
 use Rattle.header.specs.declared.header.SpliceInfoHeader.{SpliceInfoHeader}

@@ -1,5 +1,5 @@
 -- What the section writer makes of a header, a command and a loop: the section's bytes, or the number of a refusal. 01, "Refusal numbers".
-use Rattle.std.specs.Prelude.{ℕ, zero, suc, ◌+◌, Bool, not, ◌||◌, List, [], ◌∷◌, ltb, eqb, length}
+use Rattle.std.specs.Prelude.{ℕ, zero, suc, Bool, not, ◌||◌, List, [], ◌∷◌, ltb, eqb, length}
 -- "works out .. command type"
 pub use Rattle.command.specs.Command.{type_of}
 use Rattle.canonical_form.specs.Descriptor.{canonical_loop}

@@ -12,7 +12,6 @@ use Rattle.table.specs.Bits.{pick, bits_of, field, AllBytes}
 use Rattle.table.specs.Cursor.{place, cursor_at}
 use Rattle.table.specs.Table.{done, Answer, got, short, parse, canonical}
 use Rattle.table.specs.Writing.{Same, made, make}
-use Rattle.table.specs.declared.cursor.Cursor.{Cursor}
 use Rattle.table.specs.declared.cursor.Short.{Short}
 use Rattle.table.proofs.Fields.{field_in}
 use Rattle.table.proofs.Laws.{Tells}

@@ -1,5 +1,5 @@
 -- splice_time() and the adjusted time. 01, "Commands".
-use Rattle.std.specs.Prelude.{ℕ, ◌+◌, ◌%◌, ◌^◌, Bool, true, false, not, List, [], ltb}
+use Rattle.std.specs.Prelude.{ℕ, ◌+◌, ◌%◌, ◌^◌, Bool, true, false, not, ltb}
 use Rattle.table.specs.Bits.{pick}
 use Rattle.table.specs.Cursor.{cursor_at}
 use Rattle.table.specs.Table.{Table, done, uimsbf, flag, ones, Answer, got, short}

@@ -2,7 +2,7 @@
 --     num_bits, num_of, num_back     a number and its bits
 --     bytes_bits, bits-bytes         bytes and their bits
 --     bits_join, bits_split          a field of a + b bits, and one of a bits before one of b
-use Prim.Native.Nat.{ℕ, zero, suc, ◌+◌, ◌*◌, ◌-◌, ◌/◌, ◌%◌, ◌^◌, ◌<◌, ◌≤◌}
+use Prim.Native.Nat.{ℕ, zero, suc, ◌+◌, ◌*◌, ◌/◌, ◌%◌, ◌^◌, ◌<◌, ◌≤◌}
 use mathlib.Core.List.{List, [], ◌∷◌, ◌++◌}
 use mathlib.Core.Path.{◌≡◌, refl, ap, ap₂, sym, ◌∙◌}
 use native.Mathlib.Nat.{pow-suc, add-zero, mul-one, mod-one, mod-eq_of_lt, mod-lt, zero-add, zero-mul, one-mul, add-mul, mul_assoc, add_assoc, add_comm, mul_comm, suc-add, div-one, mul-div_cancel, div-div-eq-div-mul, div-lt_iff_lt-mul}
@@ -11,7 +11,7 @@ use native.Mathlib.Omega.{arith}
 use lib.ListN.{length, get_or, take, drop, length-append, length-take, length-drop}
 use lib.Pow.{pow_pos, pow_mono, mod-pow-add, shr-shr, high, low}
 use lib.Seq.{take-append-le, drop-append-le}
-use Rattle.table.specs.Bits.{num, bits_of_num, bits_of, field, bytes_n, bytes_of, big_endian, AllBytes}
+use Rattle.table.specs.Bits.{num, bits_of_num, bits_of, bytes_n, bytes_of, big_endian, AllBytes}
 use Rattle.table.proofs.Lists.{append_nil}
 
 -- ---- all are bits

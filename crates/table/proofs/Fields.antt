@@ -2,10 +2,10 @@
 --     field_bits, field_below, field_num     a field that is there: its bits, its bound; and one that was written
 --     field_add, field_byte, field_end       a field in two parts, one byte more, nothing more
 --     bits_bytes                             the bits of bytes that were made of bits
-use Prim.Native.Nat.{ℕ, zero, suc, ◌+◌, ◌*◌, ◌-◌, ◌/◌, ◌%◌, ◌^◌, ◌<◌, ◌≤◌}
+use Prim.Native.Nat.{ℕ, zero, suc, ◌+◌, ◌*◌, ◌/◌, ◌%◌, ◌^◌, ◌<◌, ◌≤◌}
 use mathlib.Core.List.{List, [], ◌∷◌, ◌++◌, append_assoc}
 use mathlib.Core.Path.{◌≡◌, refl, ap, sym, ◌∙◌}
-use native.Mathlib.Nat.{add-zero, zero-add, zero-mul, mul-one, pow-suc, add-mul, mul_assoc, add_assoc, mul_comm, mod-eq_of_lt}
+use native.Mathlib.Nat.{add-zero, zero-add, mul-one, pow-suc, add-mul, mul_assoc, add_assoc, mul_comm, mod-eq_of_lt}
 use native.Mathlib.Omega.{arith}
 use lib.ListN.{length, get_or, take, drop, length-drop, take-append-drop, drop_of_length-le}
 use lib.Pow.{high, low}

@@ -1,9 +1,9 @@
 -- The laws of every table, from any bit on.
 --     forth      what is written is read as what was handed in, its views at their new places, and is canonical
 --     back       canonical bits that are read are what is written of their reading
-use Prim.Native.Nat.{ℕ, zero, suc, ◌+◌, ◌*◌, ◌-◌, ◌/◌, ◌%◌, ◌^◌, ◌<◌, ◌≤◌}
-use mathlib.Core.Bool.{Bool, true, false, ◌&&◌}
-use mathlib.Core.List.{List, [], ◌∷◌, ◌++◌, append_assoc}
+use Prim.Native.Nat.{ℕ, ◌+◌, ◌*◌, ◌-◌, ◌/◌, ◌%◌, ◌^◌, ◌<◌, ◌≤◌}
+use mathlib.Core.Bool.{Bool, true, false}
+use mathlib.Core.List.{List, ◌++◌, append_assoc}
 use mathlib.Core.Path.{◌≡◌, refl, ap, sym, ◌∙◌}
 use native.Mathlib.Omega.{arith}
 use lib.Dec.{leb, ltb}
@@ -12,7 +12,7 @@ use lib.Seq.{drop-drop}
 use borrow.Author.Tests.{leb-true, ltb-true, le-leb, lt-ltb}
 use Rattle.table.specs.Bits.{pick, bits_of_num, bits_of, field}
 use Rattle.table.specs.Table.{Table, done, uint, view, left, must, Answer, got, short, parse, canonical}
-use Rattle.table.specs.Writing.{Field, Walk, walk, seen, within, contents, print}
+use Rattle.table.specs.Writing.{walk, seen, within, contents, print}
 use Rattle.table.proofs.Bits.{all_bits, length_num, length_bits, bits_append, bits_from}
 use Rattle.table.proofs.Fields.{field_bits, field_below, field_num}
 use Rattle.table.proofs.Lists.{zero_one, and_true}

@@ -2,19 +2,18 @@
 --     leads_in, leads_done                        a table inside another, and its end
 --     leads_number, leads_flag, leads_ones,
 --     leads_part, leads_remaining, leads_list     the tables that others are made of
-use Prim.Native.Nat.{ℕ, zero, suc, ◌+◌, ◌*◌, ◌-◌, ◌/◌, ◌%◌, ◌^◌, ◌<◌, ◌≤◌}
-use mathlib.Core.Bool.{Bool, true, false, ◌&&◌}
+use Prim.Native.Nat.{ℕ, ◌+◌, ◌*◌, ◌-◌, ◌/◌, ◌^◌}
+use mathlib.Core.Bool.{Bool, true, false}
 use mathlib.Core.List.{List, [], ◌∷◌}
 use mathlib.Core.Path.{◌≡◌, refl, ap, sym, subst, ◌∙◌}
 use native.Mathlib.Omega.{arith}
-use lib.Dec.{eqb}
 use lib.ListN.{length, get_or, drop}
 use borrow.Author.Tests.{eq-eqb}
-use Rattle.table.specs.Table.{Table, done, uint, must, inside, number, bit, reserved, part, remaining, list, uimsbf, flag, ones}
+use Rattle.table.specs.Table.{Table, done, inside, number, bit, reserved, part, remaining, list, uimsbf, flag, ones}
 use Rattle.table.specs.Writing.{Walk, walk}
 use Rattle.table.specs.declared.View.{View}
 use Rattle.table.proofs.Telling.{Each}
-use Rattle.table.proofs.Walks.{past, Tight, past_le, past_append, tight_append, joined, walk_inside}
+use Rattle.table.proofs.Walks.{past, Tight, past_append, tight_append, joined, walk_inside}
 
 -- x, written from bit `at` on, leads to y by the canonical form and ends before bit a; m bits come after it
 abbrev Lead : {X : Type 0} → Walk X → X → ℕ → ℕ → ℕ → Type 0

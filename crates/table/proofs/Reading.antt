@@ -3,7 +3,7 @@
 --     bits_are                   what `bits` answers of at most 64 bits
 --     turn_bits, turn_byte, turn_none     a turn of the loops that read
 --     shift_in                   w bits more behind a number that is kept modulo 2 ^ 64
-use Prim.Native.Nat.{ℕ, zero, suc, ◌+◌, ◌*◌, ◌-◌, ◌/◌, ◌%◌, ◌^◌, ◌<◌, ◌≤◌}
+use Prim.Native.Nat.{ℕ, ◌+◌, ◌*◌, ◌-◌, ◌/◌, ◌%◌, ◌^◌, ◌<◌, ◌≤◌}
 use mathlib.Core.List.{List}
 use mathlib.Core.Path.{◌≡◌, refl, ap, ap₂, sym, ◌∙◌}
 use native.Mathlib.Nat.{zero-add, add-zero, one-mul, div-one, mod-eq_of_lt, mod-lt, mul-mod_left}

@@ -3,22 +3,21 @@
 --     write_read        what is written of x reads as x, its views at their new places, and is canonical
 --     read_write        canonical bytes begin with what is written of their reading; without a spare byte they are it
 --     write_one      canonical bytes of equal readings are equal
-use Prim.Native.Nat.{ℕ, zero, suc, ◌+◌, ◌*◌, ◌-◌, ◌/◌, ◌%◌, ◌^◌, ◌<◌, ◌≤◌}
+use Prim.Native.Nat.{ℕ, zero, suc, ◌+◌, ◌*◌, ◌/◌, ◌%◌, ◌^◌, ◌≤◌}
 use mathlib.Core.Bool.{Bool, true, false}
 use mathlib.Core.List.{List, [], ◌∷◌, ◌++◌, append_assoc}
 use mathlib.Core.Path.{◌≡◌, refl, ap, ap₂, sym, ◌∙◌}
-use native.Mathlib.Nat.{zero-add}
 use native.Mathlib.Omega.{arith}
 use lib.Dec.{ltb, leb}
 use lib.ListN.{length, take, drop, length-append, length-drop, take-append-drop}
 use lib.Seq.{drop-length, length-take-le, take_at, drop_at}
 use borrow.Author.Tests.{ltb-true, leb-true}
 use Rattle.table.specs.Bits.{pick, bits_of_num, bits_of, bytes_of, AllBytes}
-use Rattle.table.specs.Table.{Table, done, uint, view, left, must, Answer, got, parse, canonical}
-use Rattle.table.specs.Writing.{Field, Walk, walk, seen, within, Content, number, bytes, count, contents, print, Same, Made, made, refused, make_of, make}
+use Rattle.table.specs.Table.{Table, done, uint, view, left, must, got, parse, canonical}
+use Rattle.table.specs.Writing.{Field, walk, seen, within, Content, number, bytes, count, contents, print, Same, made, refused, make_of, make}
 use Rattle.table.proofs.Bits.{all_bytes_n, length_num, length_bits, length_bytes_n, bits_append, bits_from, bytes_bits, bytes_append}
 use Rattle.table.proofs.Fields.{bits_bytes}
-use Rattle.table.proofs.Laws.{Forth, forth, Tells, Back, back}
+use Rattle.table.proofs.Laws.{forth, Tells, back}
 use Rattle.table.proofs.Leading.{Leads}
 use Rattle.table.proofs.Lists.{zero_one, and_true, append_nil}
 use Rattle.table.proofs.Walks.{past, print_length, print_bits}

@@ -3,16 +3,16 @@
 --     shift       a table without views that starts after the place reads the same, moved
 --     swap_form, shift_form    and is canonical where it was
 --     ends_at     a table that takes whole bytes ends where a byte begins
-use Prim.Native.Nat.{ℕ, zero, suc, ◌+◌, ◌*◌, ◌-◌, ◌/◌, ◌%◌, ◌≤◌, ◌<◌}
+use Prim.Native.Nat.{ℕ, zero, suc, ◌+◌, ◌*◌, ◌-◌, ◌/◌, ◌%◌, ◌≤◌}
 use mathlib.Core.Bool.{Bool, true, false, ◌&&◌}
-use mathlib.Core.List.{List, [], ◌∷◌, ◌++◌}
+use mathlib.Core.List.{List, ◌++◌}
 use mathlib.Core.Path.{◌≡◌, refl, ap, ap₂, sym, ◌∙◌}
 use native.Mathlib.Omega.{arith}
 use lib.Dec.{leb}
 use lib.ListN.{length, take, drop, length-append, length-drop}
 use lib.Seq.{drop-append-le, take-append-le, drop-append-add}
 use borrow.Author.Tests.{leb-true, leb-false, le-leb, lt-leb}
-use Rattle.table.specs.Bits.{pick, bits_of, num, field}
+use Rattle.table.specs.Bits.{pick, num, field}
 use Rattle.table.specs.Table.{Table, done, uint, view, left, must, inside, list, Answer, got, short, parse, canonical}
 use Rattle.table.proofs.Laws.{field_there, view_there}
 use Rattle.table.proofs.Longer.{Blind}

@@ -1,5 +1,5 @@
 -- Writing by a table, and when two readings are equal.
-use Rattle.std.specs.Prelude.{ℕ, zero, suc, ◌+◌, ◌*◌, ◌/◌, ◌^◌, Bool, true, false, ◌&&◌, List, [], ◌∷◌, ◌++◌, ◌≡◌, ltb, take, drop}
+use Rattle.std.specs.Prelude.{ℕ, ◌+◌, ◌*◌, ◌/◌, ◌^◌, Bool, true, ◌&&◌, List, [], ◌∷◌, ◌++◌, ◌≡◌, ltb, take, drop}
 use Rattle.table.specs.Bits.{pick, bits_of_num, bits_of, bytes_of}
 use Rattle.table.specs.Lent.{lies_in}
 use Rattle.table.specs.Table.{Table, done, uint, view, left, must}

@@ -13,18 +13,16 @@ use lib.ListN.{length, take}
 use Rattle.c_command_writer.proofs.Answers as command_answers
 use Rattle.c_command_writer.proofs.Given.{same_at}
 use Rattle.c_command_writer.specs.CommandGiven.{command_given, components_from, command_refusal, command_words_made}
-use Rattle.c_command_writer.specs.CommandWords.{command_words, CommandIs}
+use Rattle.c_command_writer.specs.CommandWords.{command_words}
 use Rattle.c_command_writer.specs.Words.{word, same, no_less}
 use Rattle.c_section.specs.FlatCommand.{flat_command, flat_command_read, no_command}
 use Rattle.c_section_writer.specs.SectionGiven.{header_from, section_words_made}
-use Rattle.canonical_form.specs.Same.{without_place}
 use Rattle.command.specs.Command as command
 use Rattle.command.specs.Command.{array, command_of, type_of}
 use Rattle.command.specs.declared.CommandRead.{CommandRead}
 use Rattle.command.specs.declared.SpliceCommand.{SpliceCommand}
 use Rattle.command.specs.declared.components.InsertComponent.{InsertComponent}
 use Rattle.command_measure.specs.Made.{command_made}
-use Rattle.header.specs.declared.header.SpliceInfoHeader.{SpliceInfoHeader}
 use Rattle.section.specs.Section.{command_type, command_bytes, moved, frame_tests, unknown_command, malformed_command, conditions, first, None}
 use Rattle.section.specs.declared.Refusal.{Refusal}
 use Rattle.table.proofs.Lists.{zero_one}
@@ -34,7 +32,7 @@ use Rattle.table.specs.Writing.{Made, made, refused}
 use Rattle.theorems_functions.proofs.Theorems.{payload_of_lem}
 use Rattle.theorems_functions.proofs.WrittenOverC as written
 use Rattle.theorems_writer.proofs.Theorems as writing
-use Rattle.theorems_writer.specs.Making.{CommandPayload, CommandMakes, SectionMakes}
+use Rattle.theorems_writer.specs.Making.{CommandMakes, SectionMakes}
 use Rattle.theorems_answers.specs.Words.{moved_by, PayloadOf}
 
 -- ---- the words of a command that is read

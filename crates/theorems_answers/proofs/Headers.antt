@@ -1,11 +1,10 @@
 -- The words of a header are the fields of its bytes.
-use Prim.Native.Nat.{ℕ, zero, suc, ◌+◌, ◌*◌, ◌^◌, ◌<◌, ◌≤◌}
-use mathlib.Core.Bool.{Bool, true, false}
+use Prim.Native.Nat.{ℕ, zero, suc, ◌<◌, ◌≤◌}
 use mathlib.Core.List.{List}
-use mathlib.Core.Path.{◌≡◌, refl, ap, sym, ◌∙◌}
+use mathlib.Core.Path.{◌≡◌, refl, sym, ◌∙◌}
 use native.Mathlib.Omega.{arith}
 use lib.Dec.{eqb}
-use lib.ListN.{length, drop, get_or, length-drop}
+use lib.ListN.{length, drop, length-drop}
 use lib.Seq.{get_or-drop}
 use borrow.Author.Tests.{lt-ltb, le-ltb}
 use Rattle.c_section.proofs.Numbers.{flat_too_short, flat_numbers}
@@ -20,7 +19,7 @@ use Rattle.table.proofs.Fields.{field_below, byte_field}
 use Rattle.table.specs.Bits.{bits_of, field, AllBytes}
 use Rattle.table.specs.Table.{flag_number}
 use Rattle.upid.proofs.Laws.{by_cases}
-use Rattle.theorems_answers.specs.Words.{header_by, header_at}
+use Rattle.theorems_answers.specs.Words.{header_at}
 
 -- a bit is its flag's number
 flag_of : (n : ℕ) → n < 2 → n ≡ flag_number (eqb n 1)

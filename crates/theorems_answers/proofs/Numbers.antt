@@ -12,7 +12,6 @@ use Rattle.names.specs.Numbering.{Numbering, number_in, class_in, named, name_of
 use Rattle.names.proofs.FlagLaws.{Flags}
 use Rattle.names.proofs.Laws.{all_named, Inverse}
 use Rattle.scte35.specs.FlatNumber.{flat_name, flat_answer}
-use Rattle.scte35.specs.declared.numbers.FlatNumber.{FlatNumber}
 use Rattle.table.specs.Bits.{pick}
 use Rattle.table.proofs.Lists.{and_true}
 use Rattle.theorems_answers.specs.Numbers.{among, classed, or_twelve, Numbered, Flagged}

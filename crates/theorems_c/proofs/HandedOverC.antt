@@ -1,6 +1,6 @@
 -- The value that words make is of its types: what is asked of a descriptor that is handed in (`Handed`) is met.
-use Prim.Native.Nat.{ℕ, zero, suc, ◌+◌, ◌%◌, ◌^◌, ◌<◌, ◌≤◌}
-use mathlib.Core.Bool.{true, ◌&&◌}
+use Prim.Native.Nat.{ℕ, zero, suc, ◌<◌, ◌≤◌}
+use mathlib.Core.Bool.{true}
 use mathlib.Core.List.{List}
 use mathlib.Core.Path.{◌≡◌, ap, sym, subst, ◌∙◌}
 use native.Mathlib.Nat.{mod-lt}
@@ -15,7 +15,6 @@ use Rattle.c_descriptor_writer.specs.ItemGiven.{byte_from}
 use Rattle.c_descriptor_writer.specs.ItemWords.{item_words, item_widths, eidr_in, places_given, places_within, beside_within, view_fits, item_fits, DescriptorIs}
 use Rattle.c_items.specs.FlatItem.{flat_descriptor, segmentation_item, active_segmentation}
 use Rattle.descriptor.specs.Segmentation.{count_of, front_of}
-use Rattle.descriptor.specs.Full.{filled}
 use Rattle.descriptor.specs.declared.Descriptor.{Descriptor}
 use Rattle.descriptor.specs.declared.segmentation.DescriptorDetail.{DescriptorDetail}
 use Rattle.descriptor.specs.declared.segmentation.SegmentationComponent.{SegmentationComponent}

@@ -30,7 +30,6 @@ use Rattle.header.specs.declared.header.SpliceInfoHeader.{SpliceInfoHeader}
 use Rattle.names.specs.Algorithm.{writable_algorithm}
 use Rattle.section_writer.specs.Writing.{section_made, type_of}
 use Rattle.table.specs.Bits.{pick}
-use Rattle.table.specs.Lent.{no_view}
 use Rattle.table.specs.Table.{flag_number}
 use Rattle.table.specs.Writing.{Made, made, refused}
 use Rattle.theorems_c.specs.OverC.{insert_components_words}

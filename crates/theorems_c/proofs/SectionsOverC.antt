@@ -15,9 +15,7 @@ use Rattle.command.specs.declared.CommandRead.{CommandRead}
 use Rattle.command.specs.declared.SpliceCommand.{SpliceCommand}
 use Rattle.command.specs.declared.components.InsertComponent.{InsertComponent}
 use Rattle.command.specs.declared.insert.SpliceInsert.{SpliceInsert}
-use Rattle.command.specs.declared.insert.SpliceDetail.{SpliceDetail}
 use Rattle.command_measure.specs.Made.{command_made}
-use Rattle.canonical_form.specs.Descriptor.{canonical_loop}
 use Rattle.c_section.specs.Flat.{flat_header}
 use Rattle.c_section.specs.FlatCommand.{flat_command, flat_insert_components}
 use Rattle.c_section.specs.FlatSection.{flat_section_read}
@@ -37,7 +35,6 @@ use Rattle.section.specs.declared.Section.{Section}
 use Rattle.section.specs.declared.SectionRead.{SectionRead}
 use Rattle.section_writer.proofs.Heads.{clear}
 use Rattle.section.proofs.Parts.{parts_of_lem}
-use Rattle.section_writer.proofs.Theorems.{canonical_parts}
 use Rattle.section_writer.proofs.Trips.{section_wrote}
 use Rattle.canonical_form.specs.Section.{canonical_section}
 use Rattle.section_writer.specs.Frame.{writable_head}

@@ -1,3 +1,2 @@
 // The demands over the C boundary, as theorems.
 #![tactic(auto)]
-

@@ -1,7 +1,7 @@
 -- What the functions that write and read lines may do, by their contracts as the checker makes them. `..-so` is what the contract then says.
 use Prim.Native.Nat.{ℕ}
 use mathlib.Core.List.{List}
-use mathlib.Core.Path.{◌≡◌, refl, sym, ◌∙◌, ap}
+use mathlib.Core.Path.{◌≡◌, sym, ◌∙◌, ap}
 use lib.ListN.{drop}
 use Rattle.bit_stores.specs.Written.{answer_of, later_of}
 use Rattle.bit_stores.specs.declared.Written.{Written}

@@ -1,50 +1,23 @@
 -- What a reader of lines answers: by the faults of a line's list, in words of its own.
-use Prim.Native.Nat.{ℕ, ◌≤◌, ◌<◌}
+use Prim.Native.Nat.{ℕ}
 use mathlib.Core.Bool.{Bool, true, false, not, ◌&&◌, ◌||◌}
 use mathlib.Core.List.{List, [], ◌∷◌, ◌++◌}
 use mathlib.Core.Option.{Option, none, some}
 use mathlib.Core.Path.{◌≡◌, refl, sym, subst, ◌∙◌, ap}
 use borrow.Author.Tests.{eq-eqb, le-leb, lt-leb}
-use lib.Dec.{eqb}
-use lib.ListN.{length, drop}
+use lib.ListN.{length}
 use Rattle.attribute_list.proofs.Lists.{same_true, line_sound, line_exact}
 use Rattle.attribute_list.specs.Cutting.{same, attributes_of}
 use Rattle.attribute_list.specs.Grammar.{Value, quoted, plain, Attribute, Line, all}
 use Rattle.bit_stores.specs.Written.{answer_of, later_of}
 use Rattle.daterange_laws.proofs.Theorems.{refused_none, judged_by}
-use Rattle.daterange_line.specs.Reading.{
-  id_name,
-  date_name,
-  cue_name,
-  known_of,
-  as_id,
-  as_date,
-  as_signal,
-  is_id,
-  is_date,
-  is_signal,
-  fits_for,
-  fitting,
-  named,
-  repeats,
-  any,
-  hexadecimal,
-  section_of,
-  fault,
-  fine,
-  judge,
-  section_made,
-  read_by,
-  read_of,
-  read_later,
-}
+use Rattle.daterange_line.specs.Reading.{id_name, date_name, cue_name, known_of, as_id, as_date, as_signal, is_id, is_date, is_signal, fits_for, fitting, named, repeats, any, section_of, fault, fine, judge, section_made, read_by, read_of, read_later}
 use Rattle.daterange_line.specs.declared.Cue.{Cue}
 use Rattle.daterange_line.specs.declared.Cue.TheVariants.{Cmd, Out, In}
 use Rattle.daterange_line.specs.declared.Known.{Known}
 use Rattle.daterange_line.specs.declared.Read.{Read}
 use Rattle.table.proofs.Lists.{zero_one}
 use Rattle.table.specs.Bits.{pick}
-use Rattle.table.specs.Writing.{made}
 use Rattle.upid.proofs.Laws.{by_cases}
 use Rattle.upid.specs.Cover.{All}
 use Rattle.theorems_daterange.specs.Faults.{NoSequence, Misfit, Faulty, Lacking, LineRead}

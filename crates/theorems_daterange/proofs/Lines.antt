@@ -1,12 +1,12 @@
 -- A line that is written: what is answered, and what it reads back to.
 use Prim.Native.Nat.{ℕ, ◌+◌, ◌*◌, ◌≤◌, ◌<◌}
 use mathlib.Core.Bool.{Bool, true, false, ◌&&◌}
-use mathlib.Core.List.{List, ◌++◌}
+use mathlib.Core.List.{List}
 use mathlib.Core.Path.{◌≡◌, refl, sym, subst, ◌∙◌, ap}
 use native.Mathlib.Omega.{arith}
 use borrow.Author.Tests.{le-leb, lt-leb, lt-ltb, le-ltb}
-use lib.Dec.{leb, ltb}
-use lib.ListN.{length, take, drop}
+use lib.Dec.{ltb}
+use lib.ListN.{length, take}
 use Rattle.attribute_list.specs.Grammar.{all, quoted_byte, Attribute}
 use Rattle.bit_stores.specs.Written.{answer_of, later_of}
 use Rattle.bit_stores.specs.declared.Written.{Written}
@@ -22,7 +22,7 @@ use Rattle.daterange_line.specs.declared.Cue.{Cue}
 use Rattle.daterange_line.specs.declared.Cue.TheVariants.{Cmd, Out, In}
 use Rattle.daterange_line.specs.declared.Read.{Read}
 use Rattle.daterange_writer.proofs.Stored.{word, line_pieces, pieces_size}
-use Rattle.daterange_writer.specs.Writing.{attributes_for, hex_of, line_of, line_made}
+use Rattle.daterange_writer.specs.Writing.{attributes_for, line_of, line_made}
 use Rattle.section.specs.Section.{section_of, number_of}
 use Rattle.section.specs.declared.Refusal.{Refusal}
 use Rattle.section.specs.declared.Section.{Section}
@@ -33,7 +33,7 @@ use Rattle.table.specs.Lent.{viewed}
 use Rattle.table.specs.Writing.{Made, made, refused}
 use Rattle.theorems_writer.proofs.Theorems.{a_refused_write_changes_no_byte, an_accepted_write_changes_only_its_result}
 use Rattle.upid.proofs.Laws.{by_cases}
-use Rattle.theorems_daterange.specs.Lines.{Cued, fixed_size, line_size, line_answered, ReadsBack, ReadsBackC}
+use Rattle.theorems_daterange.specs.Lines.{Cued, line_size, line_answered, ReadsBack, ReadsBackC}
 
 -- ---- the answer
 

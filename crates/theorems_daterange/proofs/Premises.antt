@@ -1,7 +1,7 @@
 -- What the statements ask of answers can be met: of any arguments the definition's answer is one that the contract allows.
 use Prim.Native.Nat.{ℕ}
 use mathlib.Core.List.{List, []}
-use mathlib.Core.Path.{◌≡◌, refl}
+use mathlib.Core.Path.{refl}
 use denote.Ref.{Bor}
 use denote.MutBor.{MutBor}
 use Rattle.bit_stores.specs.Written.{answer_of, later_of}

@@ -2,19 +2,17 @@
 -- checker makes them of the sources, gives this on every input. So a contract that is changed together with its body is refused here.
 use Prim.Native.Nat.{ℕ, ◌≤◌, ◌<◌}
 use mathlib.Core.List.{List}
-use mathlib.Core.Path.{◌≡◌, refl, sym, subst, ◌∙◌, ap}
+use mathlib.Core.Path.{◌≡◌, refl, sym, ◌∙◌, ap}
 use lib.ListN.{length, take}
-use Rattle.bit_stores.specs.Written.{answer_of, later_of}
+use Rattle.bit_stores.specs.Written.{answer_of}
 use Rattle.bit_stores.specs.declared.Written.{Written}
-use Rattle.c_command_writer.specs.Words.{flat_written}
 use Rattle.c_command_writer.specs.declared.FlatWritten.{FlatWritten}
 use Rattle.c_daterange.specs.FlatDaterange.{flat_daterange}
 use Rattle.c_daterange.specs.declared.FlatDaterange.{FlatDaterange}
 use Rattle.daterange.specs.Choice.{cue_for, daterange_made}
-use Rattle.daterange_line.specs.Reading.{read_of, read_later}
+use Rattle.daterange_line.specs.Reading.{read_of}
 use Rattle.daterange_line.specs.declared.Cue.{Cue}
 use Rattle.daterange_line.specs.declared.Read.{Read}
-use Rattle.daterange_writer.specs.Writing.{line_made}
 use Rattle.section.specs.Section.{conditions, first, section_of}
 use Rattle.section.specs.declared.Refusal.{Refusal}
 use Rattle.section.specs.declared.Section.{Section}

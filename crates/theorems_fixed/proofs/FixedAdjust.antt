@@ -1,5 +1,4 @@
 -- The adjustments of Q-12 fix their answers and their target's later bytes, and ask nothing of the caller, as FixedAnswers.antt has it of the readers.
-use mathlib.Core.Path.{◌≡◌}
 use lib.ListN.{drop}
 use Rattle.adjust.specs.Adjust.{adjust_of, chain_of, undo_of}
 use Rattle.adjust_section.specs.Adjusted.{adjusted_section}

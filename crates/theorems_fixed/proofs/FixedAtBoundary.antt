@@ -1,5 +1,4 @@
 -- Every public function of the C boundary fixes its answer and its target's later bytes, and asks nothing of the caller, as FixedAnswers.antt has it of the readers.
-use mathlib.Core.Path.{◌≡◌}
 use lib.ListN.{drop}
 use mathlib.Core.List.{[], ◌∷◌}
 use Rattle.command.specs.Command.{command_of, components_of, count_in}

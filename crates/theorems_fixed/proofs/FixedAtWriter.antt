@@ -1,5 +1,4 @@
 -- Every public function of the writer fixes its answer and its target's later bytes, and asks nothing of the caller, as FixedAnswers.antt has it of the readers.
-use mathlib.Core.Path.{◌≡◌}
 use mathlib.Core.List.{[]}
 use lib.Dec.{ltb}
 use lib.ListN.{get_or, length}

@@ -1,6 +1,5 @@
 -- The public functions of board, channels and c_board, and those over C: each fixes its answer and the words that it is lent, and asks nothing of the
 -- caller, as FixedAnswers.antt has it of the readers.
-use mathlib.Core.Path.{◌≡◌}
 use Rattle.board.specs.Board.{before, blank_place, breaks_of, close_of, empty_board, holds, is_free, open_of}
 use Rattle.board.specs.Breaks.{free_from}
 use Rattle.channels.specs.Channels.{close_of as channelsCloseOf, empty_shared, open_of as channelsOpenOf}

@@ -1,6 +1,5 @@
 -- Every public function that reads or writes lines of playlists (Q-1) fixes its answer and its target's later bytes, and asks nothing of the caller, as
 -- FixedAnswers.antt has it of the readers.
-use mathlib.Core.Path.{◌≡◌}
 use Prim.Native.Nat.{◌+◌}
 use lib.ListN.{drop}
 use Rattle.attribute_list.specs.Cutting.{span, test_of, same, cut_of}

@@ -1,5 +1,4 @@
 -- The number of the C boundary is one number, as FixedAtBoundary.antt has it of the other functions there.
-use mathlib.Core.Path.{◌≡◌}
 use Rattle.scte35.proofs.abi.scte35_abi.Reads as scte35_abi
 use Rattle.theorems_fixed.specs.FixedAnswers.{Answers}
 

@@ -1,6 +1,5 @@
 -- The functions that replace an identifier fix their answers and their target's later bytes, and ask nothing of the caller, as FixedAnswers.antt has it of the
 -- readers.
-use mathlib.Core.Path.{◌≡◌}
 use Rattle.bit_stores.specs.Written.{answer_of, later_of}
 use Rattle.c_command_writer.specs.Words.{flat_written}
 use Rattle.relabel.specs.Relabel.{relabel_made}

@@ -1,3 +1,2 @@
 // Of every public function which definition it answers.
 #![tactic(auto)]
-

@@ -2,13 +2,13 @@
 --     item_lies     an item whose identifier is whole
 --     parts_flat    the parts of a UPID, field by field
 --     upid_says_lem     its type, and an EIDR
-use Prim.Native.Nat.{ℕ, zero, suc, ◌+◌, ◌-◌, ◌≤◌, ◌<◌}
+use Prim.Native.Nat.{ℕ, zero, suc, ◌+◌, ◌≤◌}
 use mathlib.Core.Bool.{Bool, true, false}
-use mathlib.Core.List.{List, [], ◌∷◌, ◌++◌, map}
+use mathlib.Core.List.{List, [], ◌∷◌, map}
 use mathlib.Core.Path.{◌≡◌, refl, ap, sym, ◌∙◌}
 use native.Mathlib.Omega.{arith}
 use lib.Dec.{eqb}
-use lib.ListN.{length, take, drop, get_or, replicate}
+use lib.ListN.{length, take, replicate}
 use lib.Seq.{take_at}
 use borrow.Author.Tests.{eqb-true, eqb-false}
 use Rattle.descriptor.specs.declared.Descriptor.{Descriptor}
@@ -16,8 +16,8 @@ use Rattle.descriptor.specs.declared.segmentation.DescriptorDetail.{DescriptorDe
 use Rattle.descriptor.specs.declared.segmentation.SegmentationDescriptor.{SegmentationDescriptor}
 use Rattle.descriptor.specs.declared.segmentation.SegmentationDetail.{SegmentationDetail}
 use Rattle.c_section.specs.Flat.{flat_view}
-use Rattle.c_items.specs.FlatItem.{segmentation_head, active_segmentation, item_with, no_times, segmentation_item, flat_descriptor, blank_item, flat_item, refusal_in, values_in, flat_step}
-use Rattle.c_items.specs.FlatUpid.{three, flat_part, no_parts, flat_upid_read, flat_upid}
+use Rattle.c_items.specs.FlatItem.{active_segmentation, segmentation_item, flat_descriptor, blank_item, flat_item, refusal_in, values_in, flat_step}
+use Rattle.c_items.specs.FlatUpid.{three, flat_part, flat_upid_read, flat_upid}
 use Rattle.c_items.specs.declared.steps.FlatStep.{FlatStep}
 use Rattle.descriptor_loop.specs.Items as items
 use Rattle.descriptor_loop.specs.declared.Item.{Item}
@@ -29,7 +29,7 @@ use Rattle.canonical_form.specs.Same.Pairs.{over, pair}
 use Rattle.table.specs.Bits.{pick, bits_of, field}
 use Rattle.table.specs.declared.View.{View}
 use Rattle.theorems_reader.specs.Identifiers.{Identifier, in_lent}
-use Rattle.theorems_reader.specs.Whole.{Exactly, WholeUpid}
+use Rattle.theorems_reader.specs.Whole.{Exactly}
 use Rattle.theorems_reader.proofs.WholeCases.{DetailCase, RefusalCase, ItemCase}
 use Rattle.upid.specs.Upid as upid
 use Rattle.upid.proofs.Reported.{check_none, reports, eidr_is_written}
@@ -38,7 +38,7 @@ use Rattle.upid.specs.declared.Part.{Part}
 use Rattle.upid.specs.declared.Refusal.{Refusal}
 use Rattle.upid.specs.declared.Upid.{Upid}
 use Rattle.upid.specs.declared.UpidRead.{UpidRead}
-use Rattle.theorems_functions.specs.Flat.{Lies, UpidLies, TextLies, ItemLies, SamePart, upid_refusal, UpidSays}
+use Rattle.theorems_functions.specs.Flat.{Lies, TextLies, ItemLies, SamePart, upid_refusal, UpidSays}
 use Rattle.theorems_functions.specs.Slices.{reported_as}
 use Rattle.theorems_functions.proofs.Slices.{reported_as_lem}
 

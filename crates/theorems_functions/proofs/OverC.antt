@@ -30,15 +30,12 @@ use Rattle.c_command_writer.specs.declared.FlatWritten.{FlatWritten}
 use Rattle.descriptor_loop.proofs.Places.{all_into}
 use Rattle.descriptor_loop.specs.Items.{step_of, reading_of, Listed, items_of}
 use Rattle.descriptor_loop.specs.Cover.{run_of, Covered}
-use Rattle.descriptor_loop.specs.declared.Item.{Item}
-use Rattle.descriptor_loop.specs.declared.Step.{Step}
-use Rattle.descriptor_loop.specs.declared.reading.Reading.{Reading}
 use Rattle.canonical_form.specs.Same.{Pairs}
 use Rattle.canonical_form.specs.Same.Pairs.{over, pair}
 use Rattle.bit_stores.specs.Written.{answer_of, later_of}
 use Rattle.bit_stores.specs.declared.Written.{Written}
 use Rattle.section.proofs.Acceptance.{is_read}
-use Rattle.section.specs.Section.{command_length, command_type, command_bytes, loop_bytes, moved, conditions, first, loop_place, loop_length, section_of, number_of, loop_in}
+use Rattle.section.specs.Section.{command_length, command_type, command_bytes, loop_bytes, moved, conditions, first, loop_place, section_of, number_of, loop_in}
 use Rattle.section.specs.declared.Section.{Section}
 use Rattle.section.specs.declared.SectionRead.{SectionRead}
 use Rattle.canonical_form.specs.Section.{canonical_section}
@@ -46,7 +43,6 @@ use Rattle.table.specs.Bits.{AllBytes}
 use Rattle.table.specs.Lent.{viewed, filled_to}
 use Rattle.table.specs.declared.View.{View}
 use Rattle.table.specs.Writing.{Made, made}
-use Rattle.table.proofs.Lists.{zero_one}
 use Rattle.theorems_reader.proofs.Framed.{laid}
 use Rattle.theorems_reader.proofs.Runs.{viewed_is, viewed_inside, length_run}
 use Rattle.theorems_reader.proofs.Sections.{loop_run, loop_short}
@@ -61,7 +57,7 @@ use Rattle.theorems_reader.proofs.Whole.{whole_case}
 use Rattle.theorems_reader.proofs.WholeCases.{ItemCase}
 use Rattle.upid.specs.Cover.{All}
 use Rattle.upid.specs.Cover.All.{none, more}
-use Rattle.upid.specs.Upid.{check_of, upid_of, parts_in, part_view}
+use Rattle.upid.specs.Upid.{check_of, upid_of, part_view}
 use Rattle.upid.specs.declared.Part.{Part}
 use Rattle.upid.specs.declared.UpidRead.{UpidRead}
 use Rattle.scte35.proofs.canonical.scte35_is_canonical_section.Reads as scte35_is_canonical_section
@@ -73,7 +69,7 @@ use Rattle.scte35.proofs.scte35_read_upid.Reads as scte35_read_upid
 use Rattle.scte35.proofs.writing.scte35_write_command_words.Reads as scte35_write_command_words
 use Rattle.scte35.proofs.writing.scte35_write_descriptor_words.Reads as scte35_write_descriptor_words
 use Rattle.scte35.proofs.writing.scte35_write_section_words.Reads as scte35_write_section_words
-use Rattle.theorems_functions.specs.Flat.{Lies, taken, SectionLies, ItemLies, ItemStands, FlatListed, SteppedC, item_refusal, item_values, SameItem, upid_refusal, UpidSays, SamePart, PartLies, PutsFlat, WrittenOf, ReadsAgain}
+use Rattle.theorems_functions.specs.Flat.{taken, SectionLies, ItemLies, ItemStands, FlatListed, SteppedC, item_refusal, item_values, SameItem, upid_refusal, UpidSays, SamePart, PartLies, PutsFlat, WrittenOf, ReadsAgain}
 use Rattle.theorems_functions.specs.Slices.{Slice, reported_as}
 use Rattle.theorems_functions.proofs.Flat as flat
 use Rattle.theorems_functions.proofs.Standing as standing

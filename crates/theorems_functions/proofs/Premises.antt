@@ -1,10 +1,10 @@
 -- What the statements of functions ask of answers can be met: of any arguments the definition's answer is one that the contract allows. (`ReadsSection` and the like are in Contracts.antt, those over C in OverC.antt.)
 use Prim.Native.Nat.{ℕ, ◌≤◌}
 use mathlib.Core.Bool.{true}
-use mathlib.Core.List.{List, [], ◌∷◌, map}
+use mathlib.Core.List.{List, [], map}
 use mathlib.Core.Path.{◌≡◌, refl, ap, sym, subst, ◌∙◌}
 use native.Mathlib.Omega.{arith}
-use lib.ListN.{length, take}
+use lib.ListN.{length}
 use denote.Ref.{Bor}
 use denote.MutBor.{MutBor}
 use Rattle.bit_stores.specs.Written.{answer_of, later_of}

@@ -1,8 +1,8 @@
 -- The slices that are handed back of an item are whole.
-use Prim.Native.Nat.{ℕ, ◌+◌, ◌-◌, ◌≤◌}
+use Prim.Native.Nat.{ℕ, ◌+◌, ◌-◌}
 use mathlib.Core.Bool.{Bool, true, false}
-use mathlib.Core.List.{List, [], ◌∷◌}
-use mathlib.Core.Path.{◌≡◌, refl, ap, sym, ◌∙◌}
+use mathlib.Core.List.{List, []}
+use mathlib.Core.Path.{◌≡◌, refl, ap, ◌∙◌}
 use native.Mathlib.Omega.{arith}
 use lib.Dec.{eqb}
 use lib.ListN.{length, take, drop, get_or}
@@ -22,15 +22,14 @@ use Rattle.descriptor_loop.specs.declared.reading.Reading.{Reading}
 use Rattle.section.specs.Section.{private_view, command_length}
 use Rattle.table.specs.Bits.{pick}
 use Rattle.table.specs.Lent.{viewed, no_view}
-use Rattle.table.specs.declared.View.{View}
 use Rattle.theorems_reader.specs.Identifiers.{Identifier, in_lent, in_section, parts_read, Announced, Unsplit}
-use Rattle.theorems_reader.specs.Whole.{Exactly, WholeUpid, upid_at}
+use Rattle.theorems_reader.specs.Whole.{Exactly, WholeUpid}
 use Rattle.theorems_reader.proofs.WholeCases.{DetailCase, ItemCase, CommandCase}
 use Rattle.upid.specs.Cover.{All}
 use Rattle.upid.specs.Upid.{reported_of, part_view}
 use Rattle.upid.specs.declared.Part.{Part}
 use Rattle.upid.specs.declared.Refusal.{Refusal}
-use Rattle.theorems_functions.specs.Slices.{Slice, reported_as, UpidSlice, DetailSlice, TextSlice, RefusalSlice, ItemSlice, PartSlice, Parted, PrivateSlice}
+use Rattle.theorems_functions.specs.Slices.{Slice, reported_as, UpidSlice, DetailSlice, ItemSlice, PartSlice, Parted, PrivateSlice}
 
 -- an identifier that is exactly a run is handed back as it
 pub slice_of : (s : List ℕ) (at n : ℕ) (i : Identifier) → Exactly s at n i → Slice s at n i.bytes

@@ -3,7 +3,7 @@
 use Prim.Native.Nat.{ℕ, ◌+◌, ◌*◌, ◌-◌, ◌/◌, ◌%◌, ◌^◌, ◌≤◌, ◌<◌}
 use mathlib.Core.Bool.{Bool, true, false, ◌&&◌}
 use mathlib.Core.List.{List}
-use mathlib.Core.Path.{◌≡◌, refl, ap, sym, subst, ◌∙◌}
+use mathlib.Core.Path.{◌≡◌, refl, ap, sym, ◌∙◌}
 use native.Mathlib.Omega.{arith}
 use lib.Dec.{eqb, ltb, leb}
 use lib.ListN.{length, take, drop, get_or, length-take, length-drop}
@@ -32,7 +32,7 @@ use Rattle.table.specs.Lent.{viewed}
 use Rattle.table.specs.Table.{Answer, got, short, parse}
 use Rattle.table.specs.declared.View.{View}
 use Rattle.theorems_reader.proofs.Runs.{viewed_is, length_run, lent_run, get_d_run}
-use Rattle.theorems_reader.specs.Identifiers.{Identifier, OneRun, in_lent}
+use Rattle.theorems_reader.specs.Identifiers.{Identifier, OneRun}
 use Rattle.upid.specs.Upid.{check_of}
 use Rattle.upid.specs.declared.UpidRead.{UpidRead}
 use Rattle.theorems_functions.specs.Flat.{kind_at, next_at, ItemStands}

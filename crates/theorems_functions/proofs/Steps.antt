@@ -1,7 +1,7 @@
 -- A loop that is stepped through has the items that it is defined to have.
 --     stepped_items      what the steps answer
 --     stepped_over_c     and over C
-use Prim.Native.Nat.{ℕ, ◌+◌, ◌-◌, ◌≤◌, ◌<◌}
+use Prim.Native.Nat.{ℕ, ◌-◌, ◌≤◌, ◌<◌}
 use mathlib.Core.List.{List, [], ◌∷◌}
 use mathlib.Core.Path.{◌≡◌, refl, ap, sym, subst, ◌∙◌}
 use native.Mathlib.Omega.{arith}
@@ -15,7 +15,6 @@ use Rattle.descriptor_loop.proofs.Steps.{step_end, turn, goes_on_lem, forward}
 use Rattle.descriptor_loop.specs.Items.{step_of, Listed, listed, items_of, unless_end}
 use Rattle.descriptor_loop.specs.declared.Item.{Item}
 use Rattle.descriptor_loop.specs.declared.Step.{Step}
-use Rattle.table.proofs.Lists.{zero_one}
 use Rattle.table.specs.Lent.{filled_to}
 use Rattle.upid.proofs.Laws.{by_cases}
 use Rattle.theorems_functions.specs.Calls.{Stepped}

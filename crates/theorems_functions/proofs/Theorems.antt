@@ -3,9 +3,9 @@
 -- The same over C: OverC.antt.
 use Prim.Native.Nat.{ℕ, ◌+◌, ◌≤◌}
 use mathlib.Core.Bool.{Bool, true}
-use mathlib.Core.List.{List, [], ◌∷◌, map}
+use mathlib.Core.List.{List, ◌∷◌, map}
 use mathlib.Core.Path.{◌≡◌, refl, ap, ap₂, sym, subst, ◌∙◌}
-use lib.ListN.{length, take, drop}
+use lib.ListN.{length, take}
 use Rattle.command.specs.Command.{count_in, components_of}
 use Rattle.command.specs.declared.SpliceCommand.{SpliceCommand}
 use Rattle.command.specs.declared.components.InsertComponent.{InsertComponent}
@@ -17,7 +17,6 @@ use Rattle.descriptor.specs.declared.segmentation.SegmentationDetail.{Segmentati
 use Rattle.canonical_form.specs.Descriptor.{canonical_descriptor}
 use Rattle.command.specs.declared.insert.SpliceInsert.{SpliceInsert}
 use Rattle.descriptor_measure.specs.Writing.{descriptor_made}
-use Rattle.descriptor_writer.specs.Stores.{Writes}
 use Rattle.descriptor_loop.proofs.Places.{all_into}
 use Rattle.descriptor_loop.specs.Cover.{joined, run_of, Covered}
 use Rattle.descriptor_loop.specs.Items.{step_of, reading_of, Listed, items_of}
@@ -30,14 +29,12 @@ use Rattle.header.specs.declared.header.SpliceInfoHeader.{SpliceInfoHeader}
 use Rattle.canonical_form.specs.Same.{Given, Pairs, ItemBack, SameHeader, SameSections}
 use Rattle.loop_round_trips.specs.Loops.{given_made, WrittenAgain}
 use Rattle.canonical_form.specs.Same.Pairs.{over, pair}
-use Rattle.bit_stores.specs.Written.{answer_of, later_of}
 use Rattle.bit_stores.specs.declared.Written.{Written}
 use Rattle.section.specs.Section.{command_bytes, loop_bytes, conditions, first, section_of, number_of, None, loop_in}
-use Rattle.section.specs.Full.{beside_command, full_section_of}
+use Rattle.section.specs.Full.{beside_command}
 use Rattle.section.specs.declared.Section.{Section}
 use Rattle.section.specs.declared.SectionRead.{SectionRead}
 use Rattle.section.specs.declared.full.FullSection.{FullSection}
-use Rattle.canonical_form.specs.Section.{canonical_section}
 use Rattle.section_writer.specs.Writing.{type_of, section_made}
 use Rattle.table.proofs.Lists.{zero_one}
 use Rattle.table.specs.Bits.{AllBytes}
@@ -49,12 +46,11 @@ use Rattle.theorems_writer.proofs.Theorems as writing
 use Rattle.theorems_reader.specs.Identifiers.{in_lent, parts_read, Unsplit}
 use Rattle.theorems_writer.specs.Making.{CommandPayload, CommandMakes, HasHeader, SectionBytes}
 use Rattle.theorems_writer.specs.Writable.{Writable}
-use Rattle.theorems_reader.specs.Whole.{upid_at}
 use Rattle.theorems_reader.proofs.Whole.{whole_case, whole_command}
 use Rattle.theorems_reader.proofs.WholeCases.{ItemCase}
 use Rattle.upid.specs.Cover.{All}
 use Rattle.upid.specs.Cover.All.{none, more}
-use Rattle.upid.specs.Upid.{upid_of, parts_in, part_view}
+use Rattle.upid.specs.Upid.{upid_of, parts_in}
 use Rattle.upid.specs.declared.Part.{Part}
 use Rattle.upid.specs.declared.Upid.{Upid}
 use Rattle.command_writer.proofs.write_command_without_components.Reads as write_command_without_components

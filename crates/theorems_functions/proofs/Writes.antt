@@ -1,15 +1,11 @@
 -- What a write of bytes that are made answers and leaves; and that what stands beside a command that is read is what it is written with.
-use Prim.Native.Nat.{ℕ, ◌≤◌, ◌<◌}
-use mathlib.Core.Bool.{Bool, true, false}
-use mathlib.Core.List.{List, [], ◌∷◌, ◌++◌}
-use mathlib.Core.Path.{◌≡◌, refl, ap, ap₂, sym, ◌∙◌}
-use native.Mathlib.Omega.{arith}
-use lib.Dec.{leb}
+use Prim.Native.Nat.{ℕ, ◌≤◌}
+use mathlib.Core.List.{List}
+use mathlib.Core.Path.{◌≡◌, refl, ap, sym, ◌∙◌}
 use lib.ListN.{length, take, drop}
 use borrow.Author.Tests.{le-leb, lt-leb}
-use Rattle.command.specs.Command.{components_of, array, of_insert}
+use Rattle.command.specs.Command.{components_of}
 use Rattle.command.specs.declared.SpliceCommand.{SpliceCommand}
-use Rattle.command.specs.declared.components.InsertComponent.{InsertComponent}
 use Rattle.command_measure.specs.Made.{command_made}
 use Rattle.descriptor_writer.specs.Stores.{Writes}
 use Rattle.bit_stores.specs.Written.{answer_of, later_of}
@@ -20,7 +16,6 @@ use Rattle.section.specs.declared.SectionRead.{SectionRead}
 use Rattle.section.specs.declared.Section.{Section}
 use Rattle.section.specs.declared.full.FullSection.{FullSection}
 use Rattle.table.proofs.Lists.{zero_one}
-use Rattle.table.specs.Bits.{pick}
 use Rattle.upid.proofs.Laws.{by_cases}
 use lib.Seq.{take_at}
 use Rattle.descriptor.specs.declared.Descriptor.{Descriptor}

@@ -1,6 +1,6 @@
 -- What is written over C is read back: the words that are accepted are those of a header and a command, and the section has these.
 use Prim.Native.Nat.{ℕ, zero, suc, ◌-◌, ◌%◌, ◌≤◌}
-use mathlib.Core.Bool.{Bool, true, false, ◌&&◌}
+use mathlib.Core.Bool.{Bool, true, false}
 use mathlib.Core.List.{List, [], ◌∷◌}
 use mathlib.Core.Path.{◌≡◌, refl, ap, sym, ◌∙◌}
 use native.Mathlib.Omega.{arith}
@@ -15,12 +15,12 @@ use Rattle.c_command_writer.proofs.Typed.{TypedMode, TypedDetail, Typed}
 use Rattle.c_command_writer.proofs.Words.{places_length}
 use Rattle.c_command_writer.specs.CommandGiven.{command_given, component_from, components_from, words_refusal, command_refusal}
 use Rattle.c_command_writer.specs.CommandWords.{command_words, insert_components_in, CommandIs, command_seen}
-use Rattle.c_command_writer.specs.Words.{word, within, same, refusal_of, seen_first, lower_of, lowest, no_less, flat_written}
+use Rattle.c_command_writer.specs.Words.{word, within, same, refusal_of, seen_first, lowest, no_less, flat_written}
 use Rattle.c_command_writer.specs.declared.FlatWritten.{FlatWritten}
 use Rattle.c_section.specs.Flat.{flat_header}
 use Rattle.c_section.specs.FlatCommand.{flat_command, no_command}
 use Rattle.c_section_writer.specs.SectionGiven.{header_from, header_refusal, either, section_words_made}
-use Rattle.c_section_writer.specs.SectionWords.{header_words, header_widths, HeaderIs}
+use Rattle.c_section_writer.specs.SectionWords.{header_words, header_widths}
 use Rattle.canonical_form.specs.Same.{without_place, SameHeader}
 use Rattle.command.specs.Command.{array, with_view, count_in, insert_count}
 use Rattle.command.specs.Insert.{blank, count}

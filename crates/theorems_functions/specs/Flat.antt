@@ -1,5 +1,5 @@
 -- Demands over C: what the words of an answer say of the section.
-use Rattle.std.specs.Prelude.{ℕ, ◌+◌, ◌*◌, ◌-◌, ◌/◌, ◌%◌, ◌≤◌, ◌<◌, true, ◌&&◌, List, [], ◌∷◌, ◌++◌, ◌≡◌, eqb, leb, length, take, drop, get_or, replicate}
+use Rattle.std.specs.Prelude.{ℕ, ◌+◌, ◌-◌, ◌/◌, ◌%◌, ◌≤◌, ◌<◌, true, ◌&&◌, List, [], ◌∷◌, ◌++◌, ◌≡◌, eqb, leb, length, take, drop, get_or, replicate}
 use Rattle.c_command_writer.specs.CommandWords.{command_words, CommandIs}
 use Rattle.c_command_writer.specs.Words.{same}
 use Rattle.c_section.specs.declared.FlatView.{FlatView}

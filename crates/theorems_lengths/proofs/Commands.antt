@@ -1,13 +1,13 @@
 -- What is written of a command that is read has no more bytes than its payload.
 --     insert_past        a reading of an insert ends where its own bytes say, canonical or not
 --     command_shorter    so of every command of a section
-use Prim.Native.Nat.{ℕ, zero, suc, ◌+◌, ◌-◌, ◌*◌, ◌/◌, ◌≤◌}
+use Prim.Native.Nat.{ℕ, zero, suc, ◌+◌, ◌*◌, ◌≤◌}
 use mathlib.Core.Bool.{Bool, true, false}
-use mathlib.Core.List.{List, [], ◌∷◌, ◌++◌}
-use mathlib.Core.Path.{◌≡◌, refl, ap, sym, subst, ◌∙◌}
+use mathlib.Core.List.{List, [], ◌++◌}
+use mathlib.Core.Path.{◌≡◌, refl, ap, sym, ◌∙◌}
 use native.Mathlib.Omega.{arith}
 use lib.Dec.{eqb}
-use lib.ListN.{length, take, drop, length-take}
+use lib.ListN.{length, drop, length-take}
 use Rattle.splice_time.proofs.Breaks.{break_bytes}
 use Rattle.command.proofs.InsertLeads.{active_bytes, insert_bytes}
 use Rattle.command.proofs.InsertTrips.{insert_write_read}
@@ -40,7 +40,7 @@ use Rattle.table.proofs.Lists.{zero_one}
 use Rattle.table.proofs.Steps.{reads_in, reads_number, reads_flag, reads_ones, reads_part, takes_remaining, parse_bound}
 use Rattle.table.specs.Bits.{pick, bits_of, field}
 use Rattle.table.specs.Table.{Table, done, inside, uimsbf, ones, list, Answer, got, short, parse}
-use Rattle.table.specs.Writing.{Made, made, refused, make}
+use Rattle.table.specs.Writing.{made, refused, make}
 use Rattle.theorems_reader.proofs.Framed.{laid}
 use Rattle.theorems_writer.proofs.InsertsRead.{insert_has, got_same}
 use Rattle.theorems_writer.proofs.WrittenBack.{components_are, counted_is}

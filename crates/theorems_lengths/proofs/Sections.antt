@@ -4,7 +4,7 @@
 --     canonical_such     as of every canonical section
 use Prim.Native.Nat.{ℕ, ◌+◌, ◌≤◌}
 use mathlib.Core.Bool.{Bool, true, false}
-use mathlib.Core.List.{List, [], ◌∷◌, ◌++◌}
+use mathlib.Core.List.{List, [], ◌∷◌}
 use mathlib.Core.Path.{◌≡◌, refl, ap, sym, subst, ◌∙◌}
 use native.Mathlib.Omega.{arith}
 use lib.Dec.{eqb}
@@ -28,7 +28,7 @@ use Rattle.descriptor_round_trips.specs.Trips.{Handed}
 use Rattle.loop_round_trips.proofs.Theorems.{loop_write_read}
 use Rattle.canonical_form.specs.Same.{Given, Pairs, over, pair, ItemBack, SameItem}
 use Rattle.loop_round_trips.specs.Loops.{given_made}
-use Rattle.section.specs.Section.{command_bytes, command_length, loop_bytes, loop_length, loop_place, section_of, section_length, loop_in}
+use Rattle.section.specs.Section.{command_bytes, loop_length, loop_place, section_of, section_length, loop_in}
 use Rattle.section.specs.declared.Section.{Section}
 use Rattle.section.specs.declared.SectionRead.{SectionRead}
 use Rattle.section_writer.proofs.Frames.{length_frame}

@@ -24,7 +24,7 @@ use Rattle.table.specs.Lent.{viewed}
 use Rattle.table.specs.declared.View.{View}
 use Rattle.upid.proofs.Theorems.{only_a_mid_has_parts}
 use Rattle.upid.specs.Cover.{All, none, more}
-use Rattle.theorems_reader.specs.Identifiers.{Identifier, OneRun, in_section, in_lent, upids_of, parts_of, eidr_of, each, identifiers_of_item, identifiers_of}
+use Rattle.theorems_reader.specs.Identifiers.{Identifier, OneRun, in_section, in_lent, parts_of, eidr_of, each, identifiers_of_item, identifiers_of}
 use Rattle.theorems_reader.proofs.Framed.{laid, private_in}
 use Rattle.theorems_reader.proofs.Items.{Found, found, mid_of, eidr_of_lem, beside_runs}
 use Rattle.theorems_reader.proofs.Runs.{length_run, section_run, lent_run}

@@ -1,14 +1,14 @@
 -- What readers do not look at: section_length, and bytes behind a command's last field. And the range of a section's refusals.
-use Prim.Native.Nat.{ℕ, ◌+◌, ◌*◌, ◌-◌, ◌≤◌, ◌<◌}
-use mathlib.Core.Bool.{Bool, true, false}
+use Prim.Native.Nat.{ℕ, ◌+◌, ◌*◌, ◌-◌, ◌≤◌}
+use mathlib.Core.Bool.{Bool}
 use mathlib.Core.List.{List, ◌∷◌, ◌++◌}
 use mathlib.Core.Path.{◌≡◌, refl, ap, sym, ◌∙◌}
 use native.Mathlib.Omega.{arith}
 use lib.Dec.{eqb}
 use lib.ListN.{length, take, drop, get_or, length-append, length-drop, get_or-append}
 use lib.Seq.{drop-append-add, drop-append-le, take-append-le}
-use borrow.Author.Tests.{lt-ltb, le-ltb}
-use Rattle.command.specs.Command.{read, empty, command_of}
+use borrow.Author.Tests.{lt-ltb}
+use Rattle.command.specs.Command.{read, command_of}
 use Rattle.command.specs.Insert.{WithComponents, blank, time_unless, component, moded, ending, active, insert}
 use Rattle.splice_time.specs.Break.{break_duration}
 use Rattle.command.specs.declared.CommandRead.{CommandRead}
@@ -26,7 +26,7 @@ use Rattle.section.specs.declared.SectionRead.{SectionRead}
 use Rattle.table.proofs.Bits.{length_bits, bits_append}
 use Rattle.table.proofs.Lists.{zero_one}
 use Rattle.table.proofs.Longer.{Blind, tolerates, blind_inside, blind_pick, blind_list}
-use Rattle.table.specs.Bits.{pick, bits_of_num, bits_of, num, field}
+use Rattle.table.specs.Bits.{bits_of_num, bits_of, num, field}
 use Rattle.table.specs.Table.{Table, number, bit, reserved, list, Answer, got, short, parse}
 use Rattle.upid.proofs.Laws.{by_cases}
 use Rattle.theorems_reader.specs.Around.{Around}

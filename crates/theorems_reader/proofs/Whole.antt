@@ -9,7 +9,7 @@ use mathlib.Core.Path.{◌≡◌, refl, ap, ap₂, sym, ◌∙◌}
 use native.Mathlib.Omega.{arith}
 use lib.Dec.{eqb}
 use lib.ListN.{length, take, drop, get_or, length-take, length-drop}
-use borrow.Author.Tests.{eqb-true, eqb-false, eq-eqb, ne_eqb}
+use borrow.Author.Tests.{eqb-true, eqb-false, ne_eqb}
 use Rattle.command.specs.Command.{private, read, command_of}
 use Rattle.command.specs.Insert.{insert}
 use Rattle.command.specs.declared.CommandRead.{CommandRead}
@@ -18,7 +18,7 @@ use Rattle.command.specs.declared.SpliceCommand.{SpliceCommand}
 use Rattle.splice_time.specs.Time.{splice_time}
 use Rattle.table.proofs.Steps.{reads_number, reads_part, takes_remaining}
 use Rattle.table.proofs.Lists.{zero_one}
-use Rattle.table.specs.Bits.{pick, bits_of, field, AllBytes}
+use Rattle.table.specs.Bits.{pick, bits_of, AllBytes}
 use Rattle.table.specs.Lent.{viewed, shifted, no_view}
 use Rattle.table.specs.Table.{Answer, got, short, parse}
 use Rattle.table.specs.declared.View.{View}
@@ -31,7 +31,7 @@ use Rattle.upid.specs.declared.Refusal.{Refusal}
 use Rattle.upid.specs.declared.UpidRead.TheVariants.{Fine}
 use Rattle.descriptor.proofs.Heads.{upid_in}
 use Rattle.descriptor.specs.Segmentation.{fields_before}
-use Rattle.descriptor.specs.Descriptor.{moved_refusal, reported_upid, descriptor_of}
+use Rattle.descriptor.specs.Descriptor.{moved_refusal}
 use Rattle.descriptor.specs.Views.{without_view}
 use Rattle.descriptor.specs.Full.{beside_of, identifier_read}
 use Rattle.descriptor.specs.declared.Descriptor.{Descriptor}
@@ -44,7 +44,7 @@ use Rattle.upid.proofs.Reported.{check_none, reports, mid_is_written, eidr_is_wr
 use Rattle.descriptor_loop.proofs.Lists.{walked}
 use Rattle.descriptor_loop.proofs.Places.{all_first, type_stays}
 use Rattle.descriptor_loop.proofs.Steps.{Stands, Clause, long, ended, last, small, entire, clause}
-use Rattle.descriptor_loop.specs.Items.{item_at, read_at, complete_at, step_of, beside_item, reading_of, Listed, listed, items_of}
+use Rattle.descriptor_loop.specs.Items.{item_at, read_at, complete_at, step_of, beside_item, reading_of, Listed, items_of}
 use Rattle.descriptor_loop.specs.Place.{views_of, moved_upid}
 use Rattle.descriptor_loop.specs.Private.{moved_detail}
 use Rattle.descriptor_loop.specs.declared.Item.{Item}
@@ -56,7 +56,7 @@ use Rattle.section.specs.declared.Section.{Section}
 use Rattle.section.specs.declared.SectionRead.{SectionRead}
 use Rattle.table.proofs.Bits.{byte_in}
 use Rattle.theorems_reader.specs.Identifiers.{Identifier, OneRun, in_section, in_lent, parts_read, upids_of, Unsplit}
-use Rattle.theorems_reader.specs.Whole.{Exactly, WholeUpid, upid_at, WholeText, WholeAt, WholePrivate}
+use Rattle.theorems_reader.specs.Whole.{Exactly, WholeUpid, upid_at, WholeText, WholeAt}
 use Rattle.theorems_reader.proofs.WholeCases.{DetailCase, RefusalCase, ItemCase, CommandCase}
 use Rattle.theorems_reader.proofs.WholeCases as cases
 use Rattle.theorems_reader.proofs.Framed.{laid}

@@ -1,3 +1,2 @@
 // The demands on reading, as theorems.
 #![tactic(auto)]
-

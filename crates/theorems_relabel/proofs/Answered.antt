@@ -1,10 +1,10 @@
 -- What is answered, in the words of specs/Answered.antt.
 use Prim.Native.Nat.{ℕ, zero, suc, ◌+◌, ◌-◌, ◌<◌, ◌≤◌}
 use mathlib.Core.Bool.{Bool, true, false, not, ◌&&◌, ◌||◌}
-use mathlib.Core.List.{List, [], ◌∷◌, ◌++◌}
+use mathlib.Core.List.{List, [], ◌∷◌}
 use mathlib.Core.Path.{◌≡◌, refl, ap, ap₂, sym, subst, ◌∙◌}
 use native.Mathlib.Omega.{arith}
-use borrow.Author.Tests.{le-leb, lt-leb, lt-ltb, le-ltb, eq-eqb, ne_eqb, eqb-true, leb-false, ltb-false}
+use borrow.Author.Tests.{le-leb, lt-leb, lt-ltb, le-ltb, eqb-true, leb-false}
 use lib.Dec.{eqb, leb, ltb}
 use lib.ListN.{length, get_or}
 use Rattle.bit_stores.specs.Written.{answer_of}
@@ -12,23 +12,21 @@ use Rattle.bit_stores.specs.declared.Written.{Written}
 use Rattle.descriptor_loop.proofs.Lists.{walked}
 use Rattle.descriptor_loop.specs.Items.{step_of, Listed, items_of}
 use Rattle.descriptor_loop.specs.declared.Step.{Step}
-use Rattle.relabel.proofs.Cuts.{spotted, pay_size, section_size, own_is, upid_is_lem, old_is, loop_there, loop_size}
+use Rattle.relabel.proofs.Cuts.{spotted, pay_size, section_size, loop_there, loop_size}
 use Rattle.relabel.proofs.Mades.{Framing, framing}
 use Rattle.relabel.specs.Private.{Spotted}
 use Rattle.relabel.specs.Relabel.{payload_in, payload_then, section_then, fitting, loop_made, relabel_made}
 use Rattle.relabel_found.proofs.Actives.{ActiveAt, active_at_lem, hole_at, byte_in, type_in_lem, upid_in_lem, size_in_lem}
 use Rattle.relabel_found.specs.Found.{begins, is_active, found, type_in, size_in, upid_in}
 use Rattle.relabel_laws.proofs.Results.{accepted_of}
-use Rattle.relabel_payload.specs.Payload.{Holed}
-use Rattle.relabel_upid.proofs.Answers.{Done, done, own_short, has_parts, taken_accepted, accepted_taken}
+use Rattle.relabel_upid.proofs.Answers.{done, own_short, has_parts, taken_accepted}
 use Rattle.upid.proofs.Answers.{parts_of_mid}
-use Rattle.relabel_upid.proofs.Turns.{fine_bytes}
 use Rattle.relabel_upid.specs.Relabel.{instead, part_at, replaced_in, taken, top_made, part_made, upid_made}
-use Rattle.section.specs.Section.{command_length, loop_length, conditions, first, loop_bytes, section_of, number_of}
+use Rattle.section.specs.Section.{command_length, loop_length, loop_bytes, section_of, number_of}
 use Rattle.section.specs.declared.Section.{Section}
 use Rattle.section.specs.declared.SectionRead.{SectionRead}
 use Rattle.table.specs.Bits.{pick}
-use Rattle.table.specs.Writing.{Made, made, refused}
+use Rattle.table.specs.Writing.{made, refused}
 use Rattle.theorems_reader.proofs.Sections.{each_item}
 use Rattle.theorems_reader.proofs.Theorems.{refusals_1_to_11_in_order}
 use Rattle.upid.proofs.Laws.{by_cases}

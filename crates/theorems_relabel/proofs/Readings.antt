@@ -1,10 +1,10 @@
 -- The UPID that is found by the section's bytes is the one that is read there.
-use Prim.Native.Nat.{ℕ, ◌+◌, ◌*◌, ◌-◌, ◌/◌, ◌%◌, ◌<◌, ◌≤◌}
+use Prim.Native.Nat.{ℕ, ◌+◌, ◌-◌, ◌<◌, ◌≤◌}
 use mathlib.Core.Bool.{Bool, true, false, not, ◌||◌}
 use mathlib.Core.List.{List, [], ◌∷◌, ◌++◌, append_assoc}
 use mathlib.Core.Path.{◌≡◌, refl, ap, ap₂, sym, subst, ◌∙◌}
 use native.Mathlib.Omega.{arith}
-use borrow.Author.Tests.{eq-eqb, ne_eqb, eqb-true, eqb-false}
+use borrow.Author.Tests.{eq-eqb, ne_eqb, eqb-false}
 use lib.Dec.{eqb}
 use lib.ListN.{length, take, drop, get_or}
 use Rattle.descriptor.specs.Segmentation.{cancelled}
@@ -17,9 +17,9 @@ use Rattle.descriptor_loop.proofs.Lists.{walked}
 use Rattle.descriptor_loop.specs.Items.{step_of, reading_of, Listed, listed, items_of}
 use Rattle.descriptor_loop.specs.declared.Item.{Item}
 use Rattle.relabel.proofs.Cuts.{run_byte, pay_is, type_is, size_is, old_is, upid_is_lem, spotted, loop_there}
-use Rattle.relabel.proofs.Mades.{Framing, framing}
-use Rattle.relabel_found.proofs.Actives.{ActiveAt, active_at_lem, hole_at, byte_in, upid_in_lem, size_in_lem}
-use Rattle.relabel.specs.Private.{Spotted, head_in, place_in, run}
+use Rattle.relabel.proofs.Mades.{framing}
+use Rattle.relabel_found.proofs.Actives.{active_at_lem, hole_at, byte_in, upid_in_lem, size_in_lem}
+use Rattle.relabel.specs.Private.{Spotted, head_in}
 use Rattle.relabel.specs.Relabel.{payload_in}
 use Rattle.relabel_found.specs.Found.{begins, is_active, found, payload_at, type_in, size_in, upid_in}
 use Rattle.relabel_laws.specs.Identifiers.{of_upid, of_payload, of_item}

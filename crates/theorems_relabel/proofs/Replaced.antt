@@ -1,29 +1,24 @@
 -- The list of identifiers, before and after: with the identifier that is named between those before it and those after it.
-use Prim.Native.Nat.{ℕ, zero, suc, ◌+◌, ◌<◌, ◌≤◌}
+use Prim.Native.Nat.{ℕ, zero, suc, ◌<◌, ◌≤◌}
 use mathlib.Core.Bool.{Bool, true, false, not, ◌||◌}
 use mathlib.Core.List.{List, [], ◌∷◌, ◌++◌, append_assoc, append-nil}
-use mathlib.Core.Path.{◌≡◌, refl, ap, ap₂, sym, subst, ◌∙◌}
+use mathlib.Core.Path.{◌≡◌, refl, ap, sym, subst, ◌∙◌}
 use native.Mathlib.Omega.{arith}
-use borrow.Author.Tests.{ne_eqb, eq-eqb, eqb-true, eqb-false, le-leb}
+use borrow.Author.Tests.{ne_eqb, eqb-true, eqb-false, le-leb}
 use lib.Dec.{eqb, ltb}
 use lib.ListN.{length, get_or, take, drop}
 use Rattle.bit_stores.specs.Written.{answer_of, later_of}
 use Rattle.bit_stores.specs.declared.Written.{Written}
 use Rattle.relabel.proofs.Ats.{some_made}
-use Rattle.relabel.specs.Relabel.{relabel_made, payload_in}
-use Rattle.relabel_found.specs.Found.{type_in, upid_in}
+use Rattle.relabel.specs.Relabel.{relabel_made}
 use Rattle.relabel_laws.proofs.Theorems.{the_list_is_the_old_one_with_that_one_replaced}
-use Rattle.relabel_laws.specs.Identifiers.{of_upid, of_payload, each, identifiers_in, upid_then}
-use Rattle.relabel_laws.specs.Result.{Result}
-use Rattle.relabel_upid.proofs.Answers.{Able, made_able, has_parts, taken_accepted, top_made_is, relabelled_made, same_again}
+use Rattle.relabel_laws.specs.Identifiers.{of_upid, each, identifiers_in, upid_then}
+use Rattle.relabel_upid.proofs.Answers.{made_able, has_parts, taken_accepted, top_made_is, relabelled_made, same_again}
 use Rattle.upid.proofs.Answers.{parts_of_mid}
-use Rattle.relabel_upid.proofs.Theorems.{the_old_list_in_the_same_words}
 use Rattle.relabel_upid.specs.Kept.{Identifier, identifiers_of, identifiers_at, identifiers_then, after_part, written_type}
 use Rattle.relabel_upid.specs.Kept as kept
 use Rattle.relabel_upid.specs.Relabel.{part_at, taken, top_made, upid_made}
 use Rattle.section.specs.Section.{loop_bytes, section_of}
-use Rattle.section.specs.declared.Section.{Section}
-use Rattle.section.specs.declared.SectionRead.{SectionRead}
 use Rattle.table.proofs.Lists.{zero_one}
 use Rattle.table.specs.Bits.{pick}
 use Rattle.table.specs.Writing.{Made, made, refused, bytes_in}

@@ -4,10 +4,10 @@
 -- other one kept, and the rest of the target is as it was. And which of these it is, and with which number, is said in words of its own (specs/Answered.antt).
 use Prim.Native.Nat.{ℕ, ◌<◌, ◌≤◌}
 use mathlib.Core.Bool.{true}
-use mathlib.Core.List.{List, [], ◌∷◌, ◌++◌}
+use mathlib.Core.List.{List}
 use mathlib.Core.Path.{◌≡◌, refl, sym, subst, ◌∙◌, ap}
-use lib.ListN.{length, take, drop, get_or}
-use Rattle.bit_stores.specs.Written.{answer_of, later_of}
+use lib.ListN.{length, take, drop}
+use Rattle.bit_stores.specs.Written.{answer_of}
 use Rattle.bit_stores.specs.declared.Written.{Written}
 use Rattle.c_command_writer.specs.Words.{flat_written}
 use Rattle.c_command_writer.specs.declared.FlatWritten.{FlatWritten}

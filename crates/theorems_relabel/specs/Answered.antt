@@ -1,5 +1,5 @@
 -- What a relabelling answers, in words of its own: the first of these refusals that applies, or how many bytes are written. Sizes are counted from the old ones.
-use Rattle.std.specs.Prelude.{ℕ, zero, suc, ◌+◌, ◌-◌, Bool, true, false, not, ◌||◌, List, [], ◌∷◌, eqb, leb, ltb, length, get_or}
+use Rattle.std.specs.Prelude.{ℕ, zero, suc, ◌+◌, ◌-◌, Bool, true, not, ◌||◌, List, [], ◌∷◌, eqb, leb, ltb, length, get_or}
 use Rattle.bit_stores.specs.declared.Written.{Written}
 use Rattle.descriptor_loop.specs.Items.{Listed, items_of}
 use Rattle.relabel_found.specs.Found.{is_active}

@@ -11,7 +11,6 @@ use Rattle.section.specs.declared.Section.{Section}
 use Rattle.section.specs.declared.SectionRead.{SectionRead}
 use Rattle.upid.specs.Cover.{bytes_of}
 use Rattle.upid.specs.Upid.{upid_of, parts_in}
-use Rattle.upid.specs.declared.Part.{Part}
 
 -- what is handed in: the section, which identifier of which item, and the type and the bytes that it gets
 pub record Request : Type 0 where

@@ -25,7 +25,7 @@ use Rattle.section.specs.declared.Section.{Section}
 use Rattle.section.specs.declared.SectionRead.{SectionRead}
 use Rattle.table.proofs.Bits.{byte_in}
 use Rattle.table.specs.Bits.{pick, AllBytes}
-use Rattle.table.specs.Writing.{Made, made, refused}
+use Rattle.table.specs.Writing.{Made, made}
 use Rattle.theorems_writer.proofs.Theorems.{an_accepted_write_changes_only_its_result}
 use Rattle.theorems_requests.specs.Sections.{adjust_answered, AdjustedTo, flat_with}
 use Rattle.theorems_requests.proofs.Adjustments.{chained_so}

@@ -39,7 +39,7 @@ use Rattle.transport.specs.declared.Fed.TheVariants as fed
 use Rattle.transport_laws.proofs.Runs.{accepted_unrefused}
 use Rattle.transport_laws.proofs.Theorems as packets
 use Rattle.transport_laws.specs.Concatenation.{payloads, unrepeated, runs_of, concatenation, concatenated, spans, spanned, Multiplex}
-use Rattle.transport_laws.specs.Runs.{given, Unrefused, Clean}
+use Rattle.transport_laws.specs.Runs.{Unrefused, Clean}
 use Rattle.transport_laws.specs.Takes.{state_of, Ready}
 use Rattle.transport_packet.specs.Sections.{Right, Each}
 use Rattle.transport_packet.specs.declared.packet.Head.{Head}

@@ -1,12 +1,12 @@
 -- What is read of a payload, by the table of its kind: every payload is refused with 21 where its table lacks bytes, and else read.
 use Prim.Native.Nat.{ℕ, ◌+◌, ◌*◌, ◌-◌, ◌/◌, ◌%◌, ◌^◌, ◌≤◌, ◌<◌}
 use mathlib.Core.Bool.{Bool, true, false}
-use mathlib.Core.List.{List, [], ◌∷◌}
+use mathlib.Core.List.{List, []}
 use mathlib.Core.Path.{◌≡◌, refl, ap, sym, subst, ◌∙◌}
 use native.Mathlib.Omega.{arith}
 use lib.ListN.{length, take, drop, get_or}
 use Rattle.descriptor.proofs.Plains.{avail_is, time_is, reserved_is}
-use Rattle.descriptor.specs.Descriptor.{◌and_then◌, if_fine, moved_refusal, reported_upid, active_with, active_of, segmentation_of, dtmf_of, reserved_of, is_cuei, cuei, descriptor_of}
+use Rattle.descriptor.specs.Descriptor.{◌and_then◌, if_fine, moved_refusal, reported_upid, active_with, active_of, segmentation_of, dtmf_of, is_cuei, cuei, descriptor_of}
 use Rattle.descriptor.specs.Plain.{dtmf}
 use Rattle.descriptor.specs.Segmentation as table
 use Rattle.descriptor.specs.Segmentation.{ListedFront, Head, head, front, back, active_from, segmentation}
@@ -23,7 +23,7 @@ use Rattle.descriptor_round_trips.proofs.SegmentRead.{segmentation_read}
 use Rattle.table.proofs.Bits.{byte_in}
 use Rattle.table.proofs.Fields.{byte_field, field_in}
 use Rattle.table.proofs.Lists.{zero_one}
-use Rattle.table.proofs.Steps.{takes_in, lacks_in, takes_number, lacks_number, takes_ones, lacks_ones, takes_part, lacks_part}
+use Rattle.table.proofs.Steps.{takes_in, lacks_in, takes_number, lacks_number, takes_ones, takes_part, lacks_part}
 use Rattle.table.specs.Bits.{pick, bits_of, field, AllBytes}
 use Rattle.table.specs.Lent.{viewed}
 use Rattle.table.specs.Table.{Answer, got, short, parse}

@@ -17,7 +17,7 @@ use Rattle.command.specs.declared.Private.{Private}
 use Rattle.command.specs.declared.SpliceCommand.{SpliceCommand}
 use Rattle.command.specs.declared.insert.SpliceInsert.{SpliceInsert}
 use Rattle.descriptor.proofs.Plains.{avail_short, avail_is, time_short, time_is, reserved_is}
-use Rattle.descriptor.specs.Descriptor.{avail_of, time_of, reserved_of, cuei, descriptor_of, is_cuei}
+use Rattle.descriptor.specs.Descriptor.{cuei, descriptor_of, is_cuei}
 use Rattle.descriptor.specs.Plain.{dtmf}
 use Rattle.descriptor.specs.Full.{blank_beside}
 use Rattle.descriptor.specs.declared.Descriptor.{Descriptor}

@@ -6,8 +6,8 @@ use mathlib.Core.Path.{◌≡◌, refl, ap, sym, ◌∙◌}
 use native.Mathlib.Omega.{arith}
 use lib.ListN.{length, take, drop, get_or}
 use borrow.Author.Tests.{eqb-false}
-use Rattle.command.specs.Command.{command_of, components_of, private, read, array}
-use Rattle.command.specs.Insert.{insert, active, moded, ending, time_unless, component, blank}
+use Rattle.command.specs.Command.{command_of, components_of, private, array}
+use Rattle.command.specs.Insert.{insert, active, moded, ending, time_unless, component}
 use Rattle.splice_time.specs.Break.{break_duration}
 use Rattle.command.specs.declared.SpliceCommand.{SpliceCommand}
 use Rattle.command.specs.declared.insert.SpliceDetail.{SpliceDetail}

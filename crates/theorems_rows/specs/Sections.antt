@@ -1,5 +1,5 @@
 -- Sections that are worked out, byte by byte.
-use Rattle.std.specs.Prelude.{ℕ, List, [], ◌∷◌, ◌++◌}
+use Rattle.std.specs.Prelude.{ℕ, List, [], ◌∷◌}
 
 -- "Sections with right CRC and command length 0", of 18 and of 19 bytes
 abbrev pub eighteen : List ℕ

@@ -1,9 +1,9 @@
 -- A row for each refusal number over C: what is handed in, and the words that come back, by computation. The answers are the definitions that the lines of the
 -- `scte35_..` functions name in theorems_fixed/proofs/FixedAtBoundary.antt.
-use Prim.Native.Nat.{ℕ, ◌^◌}
-use mathlib.Core.List.{List, [], ◌∷◌, ◌++◌}
+use Prim.Native.Nat.{◌^◌}
+use mathlib.Core.List.{[], ◌∷◌, ◌++◌}
 use mathlib.Core.Path.{◌≡◌, refl}
-use lib.ListN.{drop, replicate}
+use lib.ListN.{replicate}
 use Rattle.bit_stores.specs.Written.{answer_of, later_of}
 use Rattle.c_command_writer.specs.CommandGiven.{mode_in, break_in, insert_in, command_in, command_from, insertion_from, components_from, insert_components_within, own_insert_components, words_refusal, command_refusal, command_words_made}
 use Rattle.c_command_writer.specs.CommandWords.{command_words, command_widths, command_seen}
@@ -11,9 +11,9 @@ use Rattle.c_command_writer.specs.Words.{within, same, each_place, places_of, fl
 use Rattle.c_descriptor_writer.specs.ItemGiven.{restrictions_in, sub_segments_in, segmentation_in, item_in, restrictions_from, detail_from, descriptor_from, identifier_from, place_from, places_from, eidr_from, beside_from, own_item, descriptor_words_made, descriptor_refusal}
 use Rattle.c_descriptor_writer.specs.ItemGiven as item
 use Rattle.c_descriptor_writer.specs.ItemWords.{item_words, item_widths, place_widths, places_within, beside_within, item_seen, beside_there}
-use Rattle.c_items.specs.FlatItem.{flat_restrictions, flat_sub_segments, active_segmentation, segmentation_head, segmentation_item, flat_descriptor, blank_item, flat_item, refusal_in, values_in, flat_step}
-use Rattle.c_items.specs.FlatUpid.{no_parts, flat_upid_read, flat_upid}
-use Rattle.c_section.specs.Flat.{flat_header, no_header}
+use Rattle.c_items.specs.FlatItem.{flat_restrictions, flat_sub_segments, active_segmentation, segmentation_head, segmentation_item, flat_descriptor, flat_item, refusal_in, values_in, flat_step}
+use Rattle.c_items.specs.FlatUpid.{flat_upid_read, flat_upid}
+use Rattle.c_section.specs.Flat.{flat_header}
 use Rattle.c_section.specs.FlatCommand.{flat_mode, flat_break, active_insert, insert_head, no_command, flat_command}
 use Rattle.c_section.specs.FlatSection.{flat_section_read}
 use Rattle.c_section_writer.specs.SectionGiven.{header_from, header_refusal, section_words_made}
@@ -41,7 +41,6 @@ use Rattle.section.specs.Section.{command_length, command_type, command_bytes, r
 use Rattle.section_writer.specs.Frame.{headed, numbers_fit, writable_head}
 use Rattle.section_writer.specs.Writing.{section_made}
 use Rattle.splice_time.specs.Time.{splice_time}
-use Rattle.table.specs.Bits.{big_endian}
 use Rattle.table.specs.Lent.{viewed}
 use Rattle.table.specs.Table.{number, bit, reserved, part, remaining, list}
 use Rattle.table.specs.Writing.{bytes_in}

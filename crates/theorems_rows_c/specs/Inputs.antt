@@ -1,5 +1,5 @@
 -- What is handed in: sections, loops and words that are worked out.
-use Rattle.std.specs.Prelude.{ℕ, ◌+◌, ◌^◌, List, [], ◌∷◌, ◌++◌, length, replicate}
+use Rattle.std.specs.Prelude.{ℕ, ◌+◌, List, [], ◌∷◌, ◌++◌, length, replicate}
 
 -- ---- sections. Those of 5 to 11 have the right CRC
 abbrev pub section1 : List ℕ

@@ -2,9 +2,9 @@
 use Prim.Native.Nat.{ℕ, zero, suc, ◌+◌, ◌^◌, ◌<◌}
 use mathlib.Core.Bool.{Bool, true, false}
 use mathlib.Core.List.{List, [], ◌∷◌}
-use mathlib.Core.Path.{◌≡◌, refl, ap, sym, ◌∙◌}
+use mathlib.Core.Path.{◌≡◌, refl, ap, sym}
 use native.Mathlib.Omega.{arith}
-use lib.Dec.{ltb, eqb}
+use lib.Dec.{eqb}
 use lib.ListN.{length}
 use borrow.Author.Tests.{lt-ltb}
 use Rattle.command.proofs.InsertLeads.{Counted}
@@ -20,9 +20,9 @@ use Rattle.splice_time.specs.Time.{splice_time, ticks}
 use Rattle.splice_time.specs.declared.SpliceTime.{SpliceTime}
 use Rattle.splice_time.specs.declared.SpliceTime.TheVariants.{Immediate, Unspecified, At}
 use Rattle.table.proofs.Reading.{field_lt}
-use Rattle.table.proofs.Steps.{Reads, reads_in, reads_number, reads_flag, reads_ones}
+use Rattle.table.proofs.Steps.{reads_in, reads_number, reads_flag, reads_ones}
 use Rattle.table.specs.Bits.{pick, bits_of, field}
-use Rattle.table.specs.Table.{Table, done, must, inside, uimsbf, ones, list, Answer, got, parse}
+use Rattle.table.specs.Table.{done, inside, uimsbf, ones, list, got, parse}
 
 pub got_same : {X : Type 0} {x y : X} {m n : ℕ} → got x m ≡ got y n → x ≡ y
 got_same e = cc

@@ -3,13 +3,13 @@
 --     time_fits      of a time
 --     private_fits   of a private command
 --     header_fits    of a splice header
-use Prim.Native.Nat.{ℕ, ◌^◌}
+use Prim.Native.Nat.{◌^◌}
 use mathlib.Core.Bool.{Bool, true, false, ◌&&◌}
 use mathlib.Core.List.{List, [], ◌∷◌, ◌++◌}
 use mathlib.Core.Path.{◌≡◌, refl, ap, ap₂, sym, ◌∙◌}
 use lib.Dec.{ltb}
-use lib.ListN.{length, take}
-use Rattle.command.specs.Command.{private, count_in}
+use lib.ListN.{take}
+use Rattle.command.specs.Command.{private}
 use Rattle.command.specs.Insert.{insert, insert_of, by_program, program_time, count, all_immediate, out_of_network}
 use Rattle.splice_time.specs.Break.{break_ticks, lasting}
 use Rattle.command.specs.declared.Private.{Private}
@@ -21,7 +21,7 @@ use Rattle.command.specs.declared.insert.SpliceDetail.{SpliceDetail}
 use Rattle.command.specs.declared.insert.SpliceMode.{SpliceMode}
 use Rattle.command_measure.proofs.Making.{flag_within, private_fields, within_append, within_break, within_unless}
 use Rattle.command_measure.proofs.Ties.{time_fields_lem, insert_fields_lem}
-use Rattle.command_measure.specs.Fields.{time_fields, unless_fields, list_fields, mode_fields, break_fields, tail_fields, end_fields, immediate_in, active_fields, insert_fields}
+use Rattle.command_measure.specs.Fields.{time_fields, unless_fields, list_fields, mode_fields, break_fields, tail_fields, immediate_in, active_fields, insert_fields}
 use Rattle.command_measure.specs.Made.{counted, times_fit}
 use Rattle.descriptor_round_trips.specs.Making.{fit}
 use Rattle.header.specs.Header.{splice_header}

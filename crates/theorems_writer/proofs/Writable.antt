@@ -2,7 +2,7 @@
 --     can_be_written    at any offset of any loop
 use Prim.Native.Nat.{ℕ, ◌+◌, ◌-◌, ◌≤◌}
 use mathlib.Core.List.{List}
-use mathlib.Core.Path.{◌≡◌, refl, ap, ap₂, sym, subst, ◌∙◌}
+use mathlib.Core.Path.{◌≡◌, refl, ap, sym, subst, ◌∙◌}
 use native.Mathlib.Omega.{arith}
 use lib.ListN.{length, take, drop, get_or, length-take, length-drop}
 use Rattle.table.proofs.Lists.{zero_one}
@@ -26,9 +26,8 @@ use Rattle.descriptor_loop.specs.Place.{moved_descriptor}
 use Rattle.descriptor_loop.specs.declared.Item.{Item}
 use Rattle.descriptor_loop.specs.declared.Step.{Step}
 use Rattle.loop_round_trips.proofs.Places.{moved_values, moved_count, moved_view}
-use Rattle.section.specs.Section.{section_of, loop_in}
+use Rattle.section.specs.Section.{loop_in}
 use Rattle.section.specs.declared.Section.{Section}
-use Rattle.section.specs.declared.SectionRead.{SectionRead}
 use Rattle.theorems_writer.specs.Writable.{Writable}
 use Rattle.theorems_writer.proofs.ItemsWritten.{all_viewed}
 use Rattle.theorems_writer.proofs.WritablePayloads.{written_of}

@@ -1,27 +1,25 @@
 -- What is read of a command that is no insert can be written.
-use Prim.Native.Nat.{ℕ, ◌+◌, ◌-◌, ◌*◌, ◌^◌, ◌≤◌, ◌<◌}
+use Prim.Native.Nat.{ℕ, ◌+◌, ◌^◌, ◌≤◌, ◌<◌}
 use mathlib.Core.Bool.{Bool, true, false}
-use mathlib.Core.List.{List, [], ◌∷◌}
+use mathlib.Core.List.{List, []}
 use mathlib.Core.Path.{◌≡◌, refl, ap, sym, ◌∙◌}
 use native.Mathlib.Omega.{arith}
-use lib.Dec.{eqb, ltb}
+use lib.Dec.{eqb}
 use lib.ListN.{length}
 use borrow.Author.Tests.{lt-ltb, le-leb}
-use Rattle.command.specs.Command.{private, read, type_of, command_of, components_of, count_in}
+use Rattle.command.specs.Command.{private, read, type_of, command_of, count_in}
 use Rattle.command.specs.Insert.{insert}
 use Rattle.command.specs.declared.CommandRead.{CommandRead}
 use Rattle.command.specs.declared.Private.{Private}
 use Rattle.command.specs.declared.SpliceCommand.{SpliceCommand}
 use Rattle.command.specs.declared.components.InsertComponent.{InsertComponent}
 use Rattle.command_measure.specs.Made.{command_made}
-use Rattle.descriptor_round_trips.specs.Making.{fit}
 use Rattle.splice_time.specs.Time.{splice_time, ticks, not_immediate}
 use Rattle.splice_time.specs.declared.SpliceTime.{SpliceTime}
-use Rattle.splice_time.specs.declared.SpliceTime.TheVariants.{Immediate, Unspecified, At}
-use Rattle.section.specs.Section.{command_type, command_bytes, moved, private_view, section_of}
+use Rattle.splice_time.specs.declared.SpliceTime.TheVariants.{Unspecified, At}
+use Rattle.section.specs.Section.{command_type, command_bytes, moved, section_of}
 use Rattle.section.specs.declared.Section.{Section}
 use Rattle.section.specs.declared.SectionRead.{SectionRead}
-use Rattle.section_writer.proofs.FullTrips.{Held}
 use Rattle.table.proofs.Reading.{field_lt}
 use Rattle.table.proofs.Steps.{reads_number, reads_flag, reads_ones, reads_part, takes_remaining}
 use Rattle.table.specs.Bits.{pick, bits_of, field, AllBytes}
@@ -29,8 +27,8 @@ use Rattle.table.specs.Lent.{lies_in, no_view}
 use Rattle.table.specs.Table.{Answer, got, short, parse, done, ones, uimsbf}
 use Rattle.table.specs.Writing.{made}
 use Rattle.theorems_reader.specs.Identifiers.{Identifier}
-use Rattle.theorems_writer.specs.Making.{command_numbers, CommandPayload}
-use Rattle.theorems_writer.proofs.CommandsMade.{writable_made, writable_of, payload_made_lem}
+use Rattle.theorems_writer.specs.Making.{CommandPayload}
+use Rattle.theorems_writer.proofs.CommandsMade.{writable_made, payload_made_lem}
 use Rattle.theorems_reader.proofs.Framed.{laid}
 use Rattle.theorems_writer.proofs.InsertsRead.{time_fits}
 use Rattle.theorems_reader.proofs.Whole.{whole_command}

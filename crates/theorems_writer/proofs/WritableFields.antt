@@ -2,7 +2,7 @@
 -- canonical: reserved bits are any, and bytes may be left over.
 --     front_kept, back_kept
 use Prim.Native.Nat.{ℕ, zero, suc, ◌+◌, ◌*◌, ◌-◌, ◌/◌, ◌^◌, ◌≤◌, ◌<◌}
-use mathlib.Core.Bool.{Bool, true, false, not, ◌&&◌}
+use mathlib.Core.Bool.{Bool, true, false}
 use mathlib.Core.List.{List, [], ◌∷◌}
 use mathlib.Core.Path.{◌≡◌, refl, ap, sym, ◌∙◌}
 use native.Mathlib.Omega.{arith}
@@ -16,7 +16,7 @@ use Rattle.table.proofs.Reading.{field_lt}
 use Rattle.table.proofs.Steps.{reads_in, reads_number, reads_flag, reads_ones, reads_part, takes_remaining}
 use Rattle.table.specs.Bits.{pick, bits_of, field}
 use Rattle.table.specs.Table.{done, must, uimsbf, list, Answer, got, short, parse}
-use Rattle.descriptor.specs.Segmentation.{delivery_restrictions, unrestricted, component, blank_component, Moded, mode, mode_size, by_program, count_of, duration, duration_size, ticks, lasting, written_upid, ListedFront, parts, front, blank_front, sub_segments, sub_segment, sub_bytes, back, blank_back, agrees, writable_front}
+use Rattle.descriptor.specs.Segmentation.{delivery_restrictions, unrestricted, component, blank_component, Moded, mode, by_program, count_of, duration, ticks, lasting, written_upid, ListedFront, parts, front, blank_front, sub_segments, sub_segment, sub_bytes, back, agrees, writable_front}
 use Rattle.descriptor.specs.declared.segmentation.DeliveryRestrictionFlags.{DeliveryRestrictionFlags}
 use Rattle.descriptor.specs.declared.segmentation.SegmentationComponent.{SegmentationComponent}
 use Rattle.descriptor.specs.declared.segmentation.SegmentationDuration.{SegmentationDuration}

@@ -3,10 +3,10 @@
 --     insert-written    so it is written
 use Prim.Native.Nat.{ℕ, zero, suc, ◌+◌, ◌-◌, ◌^◌, ◌≤◌, ◌<◌}
 use mathlib.Core.Bool.{Bool, true, false, not, ◌&&◌}
-use mathlib.Core.List.{List, [], ◌∷◌, ◌++◌}
+use mathlib.Core.List.{List, [], ◌∷◌}
 use mathlib.Core.Path.{◌≡◌, refl, ap, sym, subst, ◌∙◌}
 use native.Mathlib.Omega.{arith}
-use lib.Dec.{eqb, ltb}
+use lib.Dec.{eqb}
 use lib.ListN.{length, take, replicate, length-append, length-replicate}
 use borrow.Author.Tests.{lt-ltb, le-leb, eq-eqb, eqb-false, not-true}
 use Rattle.command.proofs.Filling.{blank_length}
@@ -25,7 +25,6 @@ use Rattle.command.specs.declared.insert.SpliceDetail.{SpliceDetail}
 use Rattle.command.specs.declared.insert.SpliceMode.{SpliceMode}
 use Rattle.command_measure.specs.Made.{counted, command_made}
 use Rattle.descriptor_round_trips.specs.Making.{fit}
-use Rattle.command.proofs.Arrays.{array_take}
 use Rattle.splice_time.specs.Time.{splice_time, ticks, immediate}
 use Rattle.splice_time.specs.declared.SpliceTime.{SpliceTime}
 use Rattle.splice_time.specs.declared.SpliceTime.TheVariants.{Immediate}
@@ -36,10 +35,9 @@ use Rattle.table.proofs.Lists.{and_true}
 use Rattle.table.proofs.Reading.{field_lt}
 use Rattle.table.proofs.Steps.{reads_in, reads_number, reads_flag, reads_ones}
 use Rattle.table.specs.Bits.{pick, bits_of, field, AllBytes}
-use Rattle.table.specs.Lent.{lies_in, no_view}
 use Rattle.table.specs.Table.{done, inside, list, Answer, got, short, parse}
 use Rattle.table.specs.Writing.{made}
-use Rattle.theorems_writer.specs.Making.{component_numbers, insert_numbers, command_numbers, CommandPayload}
+use Rattle.theorems_writer.specs.Making.{component_numbers, command_numbers, CommandPayload}
 use Rattle.theorems_writer.proofs.CommandsMade.{writable_made, payload_made_lem}
 use Rattle.theorems_reader.proofs.Framed.{laid}
 use Rattle.theorems_writer.proofs.InsertsRead.{unless_fits, insert_has, got_same}

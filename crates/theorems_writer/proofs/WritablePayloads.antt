@@ -1,16 +1,15 @@
 -- Whatever is read of a descriptor's payload is written. The payload need not be canonical.
 --     ready          what is read of a payload is within its fields and writable
 --     is_written     so something is made of it
-use Prim.Native.Nat.{ℕ, ◌+◌, ◌*◌, ◌-◌, ◌/◌, ◌^◌, ◌≤◌, ◌<◌}
-use mathlib.Core.Bool.{Bool, true, false, not, ◌&&◌}
-use mathlib.Core.List.{List, [], ◌∷◌}
-use mathlib.Core.Path.{◌≡◌, refl, ap, ap₂, sym, ◌∙◌}
+use Prim.Native.Nat.{ℕ, ◌+◌, ◌-◌, ◌^◌, ◌≤◌, ◌<◌}
+use mathlib.Core.Bool.{Bool, true, false, ◌&&◌}
+use mathlib.Core.List.{List, []}
+use mathlib.Core.Path.{◌≡◌, refl, ap, sym, ◌∙◌}
 use native.Mathlib.Omega.{arith}
 use lib.Dec.{eqb, ltb, leb}
-use lib.ListN.{length, take, drop, get_or, replicate, length-replicate, length-append}
+use lib.ListN.{length, take, get_or, replicate, length-replicate, length-append}
 use borrow.Author.Tests.{lt-ltb, le-ltb, le-leb, eqb-true, eqb-false}
-use Rattle.table.proofs.Fields.{byte_field}
-use Rattle.table.proofs.Lists.{zero_one, and_true}
+use Rattle.table.proofs.Lists.{zero_one}
 use Rattle.table.proofs.Reading.{field_lt}
 use Rattle.table.proofs.Steps.{takes_in, reads_number, reads_flag, reads_ones, reads_part}
 use Rattle.table.proofs.Structure.{write_size}
@@ -26,22 +25,19 @@ use Rattle.descriptor.proofs.Plains.{reserved_is}
 use Rattle.descriptor.proofs.Structures.{avail_structure, dtmf_structure, time_structure, private_structure}
 use Rattle.descriptor.specs.Descriptor.{◌and_then◌, reported_upid, if_fine, avail_of, dtmf_of, time_of, reserved_of, active_with, active_of, segmentation_of, is_cuei, descriptor_of}
 use Rattle.descriptor.specs.Plain.{avail, dtmf, time, private_table}
-use Rattle.descriptor.specs.Segmentation.{blank_component, ListedFront, Head, head, front, back, active_from, segmentation, writable_front, writable_detail, count_of, mode_size, duration_size, sub_bytes}
+use Rattle.descriptor.specs.Segmentation.{blank_component, ListedFront, Head, head, front, back, active_from, segmentation, writable_front, writable_detail, count_of}
 use Rattle.descriptor.specs.Full.{filled, blank_beside, beside_in, beside_of, beside_read, identifier_read}
 use Rattle.descriptor.specs.declared.Descriptor.{Descriptor}
 use Rattle.descriptor.specs.declared.Descriptor.TheVariants.{Avail, Dtmf, Segmentation, Time, Reserved}
 use Rattle.descriptor.specs.declared.DescriptorRead.{DescriptorRead}
-use Rattle.descriptor.specs.declared.plain.AvailDescriptor.{AvailDescriptor}
 use Rattle.descriptor.specs.declared.plain.DTMFDescriptor.{DTMFDescriptor}
-use Rattle.descriptor.specs.declared.plain.TimeDescriptor.{TimeDescriptor}
 use Rattle.descriptor.specs.declared.segmentation.SegmentationComponent.{SegmentationComponent}
 use Rattle.descriptor.specs.declared.segmentation.SegmentationDescriptor.{SegmentationDescriptor}
 use Rattle.descriptor.specs.declared.segmentation.DescriptorDetail.{DescriptorDetail}
-use Rattle.descriptor.specs.declared.segmentation.SegmentationDetail.{SegmentationDetail}
 use Rattle.descriptor.specs.declared.segmentation.SegmentationUpid.{SegmentationUpid}
 use Rattle.descriptor.specs.declared.full.Beside.{Beside}
 use Rattle.descriptor_measure.proofs.Making.{made_size}
-use Rattle.descriptor_measure.specs.Writing.{count_beside, enveloped, enveloped_made, all_zero, alone, writable_reserved, writable_upid, written_type, writable_segment, segmentation_made, payload_made, descriptor_made, tag_of, identifier_of, upid_source, written, upid_in}
+use Rattle.descriptor_measure.specs.Writing.{count_beside, enveloped, enveloped_made, alone, writable_reserved, writable_upid, written_type, writable_segment, segmentation_made, payload_made, descriptor_made, tag_of, identifier_of, upid_source, written, upid_in}
 use Rattle.descriptor_measure.specs.Private.{payload_size}
 use Rattle.descriptor_round_trips.proofs.MadeSo.{what_is_made}
 use Rattle.descriptor_round_trips.proofs.Payloads.{written_if_read}
@@ -51,8 +47,8 @@ use Rattle.descriptor_round_trips.specs.Making.{fit, component_numbers, numbers_
 use Rattle.descriptor_round_trips.specs.Trips.{Handed}
 use Rattle.table.proofs.Bits.{byte_in}
 use Rattle.theorems_writer.proofs.ItemsWritten.{all_viewed}
-use Rattle.descriptor.proofs.Heads.{head_ends, place, Placed, front_told, upid_in as upidThere}
-use Rattle.theorems_writer.proofs.WritableFields.{FrontKept, front_kept, BackKept, back_kept}
+use Rattle.descriptor.proofs.Heads.{head_ends, place, Placed, front_told}
+use Rattle.theorems_writer.proofs.WritableFields.{FrontKept, front_kept, back_kept}
 use Rattle.theorems_writer.proofs.WritableUpids as upids
 use Rattle.theorems_writer.proofs.WritableUpids.{zeros_all, zeros_bytes, no_bytes}
 

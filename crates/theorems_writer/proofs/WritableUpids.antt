@@ -1,24 +1,22 @@
 -- A UPID that is accepted, as it is reported, is one that a writer takes.
 use Prim.Native.Nat.{ℕ, zero, suc, ◌+◌, ◌≤◌, ◌<◌}
-use mathlib.Core.Bool.{Bool, true, false, not, ◌&&◌}
-use mathlib.Core.List.{List, [], ◌∷◌}
-use mathlib.Core.Path.{◌≡◌, refl, ap, ap₂, sym, ◌∙◌}
+use mathlib.Core.Bool.{Bool, true, false, ◌&&◌}
+use mathlib.Core.List.{List}
+use mathlib.Core.Path.{◌≡◌, refl, ap, sym, ◌∙◌}
 use native.Mathlib.Omega.{arith}
 use lib.Dec.{eqb}
 use lib.ListN.{length, replicate}
-use borrow.Author.Tests.{eqb-true, eqb-false, eq-eqb, ne_eqb}
-use Rattle.table.proofs.Lists.{and_true}
+use borrow.Author.Tests.{eqb-true, eqb-false, ne_eqb}
 use Rattle.table.specs.Bits.{pick, AllBytes}
 use Rattle.table.specs.Lent.{viewed, no_view}
 use Rattle.table.specs.declared.View.{View}
 use Rattle.upid.specs.Upid.{check_of, eidr_of, length_of, reported_of}
 use Rattle.upid.specs.declared.UpidRead.TheVariants.{Fine}
 use Rattle.descriptor.specs.Descriptor.{reported_upid}
-use Rattle.descriptor.specs.Segmentation.{agrees}
 use Rattle.descriptor.specs.declared.segmentation.SegmentationUpid.{SegmentationUpid}
-use Rattle.descriptor_measure.specs.Writing.{all_zero, accepts, writable_upid, written_type, written_upid}
+use Rattle.descriptor_measure.specs.Writing.{all_zero, writable_upid, written_type, written_upid}
 use Rattle.upid.proofs.Reported.{check_none, reports, eidr_is_written}
-use Rattle.theorems_reader.proofs.Runs.{viewed_is, length_viewed}
+use Rattle.theorems_reader.proofs.Runs.{length_viewed}
 
 pub zeros_all : (n : ℕ) → all_zero (replicate n 0) ≡ true
 unfolding all_zero

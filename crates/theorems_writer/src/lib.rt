@@ -1,3 +1,2 @@
 // The demands on writing, as theorems.
 #![tactic(auto)]
-

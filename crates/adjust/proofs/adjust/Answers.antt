@@ -2,7 +2,6 @@
 use mathlib.Core.Path.{sym}
 use native.Mathlib.Omega.{arith}
 use Rattle.adjust.proofs.Laws.{adjust_is, adjust_wide, adjust_late}
-use borrow.Author.Rules.{rules}
 use Rattle.adjust.proofs.adjust.Goals as goal
 
 -- src/lib.rt:23:9

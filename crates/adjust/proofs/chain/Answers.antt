@@ -2,7 +2,6 @@
 use mathlib.Core.Path.{sym}
 use native.Mathlib.Omega.{arith}
 use Rattle.adjust.proofs.Laws.{chain_is, chain_first, chain_second}
-use borrow.Author.Rules.{rules}
 use Rattle.adjust.proofs.chain.Goals as goal
 
 -- src/lib.rt:42:9

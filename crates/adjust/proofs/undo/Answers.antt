@@ -2,7 +2,6 @@
 use mathlib.Core.Path.{sym}
 use native.Mathlib.Omega.{arith}
 use Rattle.adjust.proofs.Laws.{undo_is, undo_wide}
-use borrow.Author.Rules.{rules}
 use Rattle.adjust.proofs.undo.Goals as goal
 
 -- src/lib.rt:55:9

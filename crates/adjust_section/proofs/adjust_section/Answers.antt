@@ -1,5 +1,5 @@
 -- `adjust_section::adjust_section`, return by return.
-use Prim.Native.Nat.{ℕ, ◌+◌, ◌%◌}
+use Prim.Native.Nat.{◌+◌, ◌%◌}
 use mathlib.Core.Path.{◌≡◌, sym, ◌∙◌, ap}
 use native.Mathlib.Omega.{arith}
 use Rattle.bit_stores.proofs.Writes.{refused_answer, short_answer}
@@ -9,7 +9,6 @@ use Rattle.table.proofs.Reading.{field_lt}
 use Rattle.adjust_section.specs.Adjusted.{adjustment_in, adjusted_section}
 use Rattle.adjust_section.proofs.Parts.{length_section}
 use Rattle.adjust_section.proofs.Stored.{is_refused, is_wide, is_made, sizes, wrote_section}
-use borrow.Author.Rules.{rules}
 use Rattle.adjust_section.proofs.adjust_section.Goals as goal
 
 pub returns-in-Refused : goal.returns-in-Refused

@@ -1,8 +1,5 @@
 -- `adjust_section::put_section`: four stores as one.
-use Prim.Native.Nat.{ℕ}
-use native.Mathlib.Omega.{arith}
 use Rattle.adjust_section.proofs.Stored.{section_stored}
-use borrow.Author.Rules.{rules}
 use Rattle.adjust_section.proofs.put_section.Goals as goal
 
 pub returns : goal.returns

@@ -1,6 +1,4 @@
 -- `bit_stores::digits`: what the shift leaves of the number.
-use Prim.Native.Nat.{◌^◌}
-use mathlib.Core.Path.{◌≡◌}
 use lib.Pow.{pow_pos}
 use Rattle.table.proofs.Reading.{mask}
 use Rattle.bit_stores.proofs.Turns.{no_digits}

@@ -1,15 +1,13 @@
 -- `bit_stores::put_across`: of the field, w - ahead bits are stored, and the byte `at` goes on where they end.
-use Prim.Native.Nat.{ℕ, ◌+◌, ◌-◌, ◌*◌, ◌/◌, ◌%◌, ◌^◌, ◌≤◌, ◌<◌}
-use mathlib.Core.Path.{◌≡◌, refl, ap, sym, ◌∙◌}
-use mathlib.Core.List.{List}
+use Prim.Native.Nat.{◌+◌, ◌-◌, ◌*◌, ◌/◌, ◌^◌, ◌≤◌, ◌<◌}
+use mathlib.Core.Path.{◌≡◌, ap, sym, ◌∙◌}
 use native.Mathlib.Nat.{sub-zero, div-one, mod-lt}
 use native.Mathlib.Omega.{arith}
-use lib.ListN.{length, get_or, set}
+use lib.ListN.{length, get_or}
 use lib.Pow.{pow_pos}
 use Rattle.bit_stores.specs.Private.{with_bits}
 use Rattle.table.specs.Bits.{bits_of_num}
 use Rattle.table.proofs.Bits.{length_num, bytes_all}
-use Rattle.bit_stores.specs.Pen.{penned}
 use Rattle.bit_stores.proofs.Penned.{length_penned, penned_nil}
 use Rattle.bit_stores.proofs.Turns.{room_is, inside_is, next_fits, ends_at, turned, turn, pens_none, pens_all}
 use Rattle.bit_stores.proofs.put_across.Goals as goal

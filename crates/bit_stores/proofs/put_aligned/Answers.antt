@@ -1,11 +1,10 @@
 -- `bit_stores::put_aligned`: a number's bytes are its bits.
-use Prim.Native.Nat.{ℕ, ◌+◌, ◌*◌}
-use mathlib.Core.Path.{◌≡◌, ◌∙◌}
+use Prim.Native.Nat.{◌*◌}
+use mathlib.Core.Path.{◌∙◌}
 use native.Mathlib.Omega.{arith}
 use Rattle.table.specs.Bits.{bits_of_num}
 use Rattle.table.proofs.Bits.{length_num, bytes_all}
 use Rattle.bit_stores.proofs.Turns.{pens_none, pens_number}
-use borrow.Author.Rules.{rules}
 use Rattle.bit_stores.proofs.put_aligned.Goals as goal
 
 pub returns-then-out-at : goal.returns-then-out-at

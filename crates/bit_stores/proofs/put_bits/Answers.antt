@@ -1,6 +1,5 @@
 -- `bit_stores::put_bits`: whole bytes at once where a byte begins.
 use Rattle.bit_stores.proofs.Turns.{pens_aligned}
-use borrow.Author.Rules.{rules}
 use Rattle.bit_stores.proofs.put_bits.Goals as goal
 
 pub returns-then-w-eq0 : goal.returns-then-w-eq0

@@ -1,15 +1,12 @@
 -- `bit_stores::put_run`: whole bytes at once where a byte begins, else one by one.
-use Prim.Native.Nat.{ℕ, ◌+◌, ◌*◌, ◌/◌, ◌%◌, ◌≤◌}
-use mathlib.Core.Path.{◌≡◌, refl, ap, sym, ◌∙◌}
+use Prim.Native.Nat.{◌+◌, ◌*◌, ◌/◌, ◌%◌, ◌≤◌}
+use mathlib.Core.Path.{◌≡◌, ◌∙◌}
 use native.Mathlib.Omega.{arith}
 use lib.ListN.{length}
 use Rattle.table.specs.Bits.{bits_of}
 use Rattle.table.specs.Cursor.{place}
 use Rattle.table.proofs.Bits.{length_bits, bytes_all}
-use Rattle.bit_stores.specs.Pen.{Pens}
-use Rattle.bit_stores.specs.Private.{Fits}
 use Rattle.bit_stores.proofs.Turns.{run_room, pens_none, pens_from, pens_stored, settled_is, place_is}
-use borrow.Author.Rules.{rules}
 use Rattle.bit_stores.proofs.put_run.Goals as goal
 
 pub returns-then-out-byte : goal.returns-then-out-byte

@@ -6,7 +6,6 @@ use lib.Pow.{pow_pos}
 use Rattle.bit_stores.specs.Private.{with_bits}
 use Rattle.table.proofs.Reading.{mask}
 use Rattle.bit_stores.proofs.Turns.{mixed, mixed_byte}
-use borrow.Author.Rules.{rules}
 use Rattle.bit_stores.proofs.with_bits.Goals as goal
 
 pub nonzero_rem-low : goal.nonzero_rem-low

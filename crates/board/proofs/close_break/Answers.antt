@@ -1,12 +1,6 @@
-
-use Rattle.std.proofs.Common.{sym, ◌∙◌, arith, rules}
+use Rattle.std.proofs.Common.{sym, ◌∙◌, arith}
 use Rattle.board.specs.Board.{blank_place}
 use Rattle.board.proofs.Steps.{close_refused, close_given}
-use Rattle.board.proofs.close_break.Reads as reads
-use Rattle.board.proofs.close_break.Lts as lts
-use Rattle.board.proofs.blank_place.Reads as blank_place_reads
-use Rattle.board.proofs.place_of.Reads as place_of_reads
-use Rattle.board.proofs.refused.Reads as refused_reads
 use Rattle.board.proofs.close_break.Goals as goal
 
 -- src/lib.rt:149:9

@@ -1,10 +1,6 @@
-
-use Rattle.std.proofs.Common.{◌≡◌, ◌+◌, ◌-◌, ◌≤◌, drop, arith, rules}
-use borrow.Author.Tests.{not-true, not-false}
-use Rattle.board.specs.Board.{is_free, before}
+use Rattle.std.proofs.Common.{arith, rules}
+use Rattle.board.specs.Board.{is_free}
 use Rattle.board.proofs.Search.{search_starts, search_finds, search_passes, search_ends}
-use Rattle.board.proofs.free_place.Reads as reads
-use Rattle.board.proofs.free_place.Lts as lts
 use Rattle.board.proofs.free_place.Goals as goal
 
 -- src/lib.rt:62:5

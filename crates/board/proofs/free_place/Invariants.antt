@@ -1,10 +1,5 @@
-
-use Rattle.std.proofs.Common.{◌≡◌, ◌+◌, ◌-◌, ◌≤◌, drop, arith, rules}
-use borrow.Author.Tests.{not-true, not-false}
+use Rattle.std.proofs.Common.{◌≡◌, ◌+◌, ◌-◌, ◌≤◌, drop}
 use Rattle.board.specs.Board.{is_free, before}
-use Rattle.board.proofs.Search.{search_starts, search_finds, search_passes, search_ends}
-use Rattle.board.proofs.free_place.Reads as reads
-use Rattle.board.proofs.free_place.Lts as lts
 use Rattle.board.proofs.free_place.Given as goal
 
 abbrev pub invariant-loop-i : goal.invariant-loop-i

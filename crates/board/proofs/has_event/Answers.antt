@@ -1,7 +1,3 @@
-
-use Rattle.std.proofs.Common.{rules}
-use Rattle.board.proofs.has_event.Reads as reads
-use Rattle.board.proofs.has_event.Lts as lts
 use Rattle.board.proofs.has_event.Goals as goal
 
 -- src/lib.rt:72:1

@@ -1,13 +1,6 @@
-
-use Rattle.std.proofs.Common.{sym, ◌∙◌, arith, rules}
+use Rattle.std.proofs.Common.{sym, ◌∙◌, arith}
 use Rattle.board.specs.Breaks.{after}
 use Rattle.board.proofs.Steps.{open_refused, open_given}
-use Rattle.board.proofs.open_break.Reads as reads
-use Rattle.board.proofs.open_break.Lts as lts
-use Rattle.board.proofs.free_id.Reads as free_id_reads
-use Rattle.board.proofs.free_place.Reads as free_place_reads
-use Rattle.board.proofs.refused.Reads as refused_reads
-use Rattle.std.proofs.num.wrapping_add_u32.Reads as wrapping_add_u32_reads
 use Rattle.board.proofs.open_break.Goals as goal
 
 -- src/lib.rt:124:9

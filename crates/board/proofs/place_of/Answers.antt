@@ -1,10 +1,6 @@
-
-use Rattle.std.proofs.Common.{◌≡◌, ◌+◌, ◌-◌, ◌≤◌, drop, sym, ◌∙◌, arith, rules}
-use Rattle.board.specs.Board.{holds, before}
+use Rattle.std.proofs.Common.{sym, ◌∙◌, arith, rules}
+use Rattle.board.specs.Board.{holds}
 use Rattle.board.proofs.Search.{search_starts, search_finds, search_passes, search_ends}
-use Rattle.board.proofs.place_of.Reads as reads
-use Rattle.board.proofs.place_of.Lts as lts
-use Rattle.board.proofs.has_event.Reads as has_event_reads
 use Rattle.board.proofs.place_of.Goals as goal
 
 -- src/lib.rt:83:5

@@ -1,5 +1,4 @@
 -- `c_adjust::flat_adjustment` meets its contract.
-use borrow.Author.Rules.{rules}
 use Rattle.c_adjust.specs.FlatAdjust.{flat_adjustment}
 use Rattle.c_adjust.proofs.flat_adjustment.Goals as goal
 

@@ -1,5 +1,4 @@
 -- `c_adjust::flat_moved` meets its contract, by the kind of the time.
-use borrow.Author.Rules.{rules}
 use Rattle.c_adjust.specs.FlatAdjust.{flat_moved}
 use Rattle.c_adjust.proofs.flat_moved.Goals as goal
 

@@ -1,18 +1,8 @@
-
-use mathlib.Core.Path.{◌≡◌, refl, sym, ◌∙◌, ap}
-use native.Mathlib.Omega.{arith}
+use mathlib.Core.Path.{◌∙◌, ap}
 use borrow.Author.Tests.{lt-ltb, le-ltb}
 use Rattle.channels.specs.Channels.{close_of}
 use Rattle.channels.specs.declared.SharedBoard.{SharedBoard}
 use Rattle.c_board.specs.Lent.{closed}
-use borrow.Author.Rules.{rules}
-use Rattle.c_board.proofs.close_words.Reads as reads
-use Rattle.c_board.proofs.close_words.Lts as lts
-use Rattle.channels.proofs.close_break.Reads as close_break_reads
-use Rattle.c_board.proofs.board_given.Reads as board_given_reads
-use Rattle.c_board.proofs.flat_reply.Reads as flat_reply_reads
-use Rattle.c_board.proofs.settle.Reads as settle_reads
-use Rattle.c_board.proofs.too_short.Reads as too_short_reads
 use Rattle.c_board.proofs.close_words.Goals as goal
 
 -- src/lib.rt:168:9

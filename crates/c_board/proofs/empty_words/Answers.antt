@@ -1,16 +1,8 @@
-
-use mathlib.Core.Path.{◌≡◌, refl, sym, ◌∙◌, ap}
-use native.Mathlib.Omega.{arith}
+use mathlib.Core.Path.{◌∙◌, ap}
 use borrow.Author.Tests.{lt-ltb, le-ltb}
 use Rattle.channels.specs.declared.SharedBoard.{SharedBoard}
 use Rattle.c_board.specs.Words.{stored}
 use Rattle.c_board.specs.Lent.{emptied}
-use borrow.Author.Rules.{rules}
-use Rattle.c_board.proofs.empty_words.Reads as reads
-use Rattle.c_board.proofs.empty_words.Lts as lts
-use Rattle.channels.proofs.empty.Reads as empty_reads
-use Rattle.c_board.proofs.put_board.Reads as put_board_reads
-use Rattle.c_board.proofs.too_short.Reads as too_short_reads
 use Rattle.c_board.proofs.empty_words.Goals as goal
 
 -- src/lib.rt:144:9

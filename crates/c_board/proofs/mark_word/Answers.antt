@@ -1,8 +1,4 @@
-
 use Rattle.c_board.specs.Words.{mark_word}
-use borrow.Author.Rules.{rules}
-use Rattle.c_board.proofs.mark_word.Reads as reads
-use Rattle.c_board.proofs.mark_word.Lts as lts
 use Rattle.c_board.proofs.mark_word.Goals as goal
 
 -- src/lib.rt:91:9

@@ -1,8 +1,4 @@
-
 use Rattle.board.specs.Breaks.{number_of}
-use borrow.Author.Rules.{rules}
-use Rattle.c_board.proofs.number_of.Reads as reads
-use Rattle.c_board.proofs.number_of.Lts as lts
 use Rattle.c_board.proofs.number_of.Goals as goal
 
 -- src/lib.rt:94:1

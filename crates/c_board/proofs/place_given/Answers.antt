@@ -1,9 +1,5 @@
-
 use mathlib.Core.Path.{refl}
 use Rattle.c_board.specs.Words.{place_given}
-use borrow.Author.Rules.{rules}
-use Rattle.c_board.proofs.place_given.Reads as reads
-use Rattle.c_board.proofs.place_given.Lts as lts
 use Rattle.c_board.proofs.place_given.Goals as goal
 
 -- src/lib.rt:26:1

@@ -1,10 +1,5 @@
-
 use mathlib.Core.Path.{refl}
 use borrow.Author.Tests.{eq-eqb, ne_eqb}
-use borrow.Author.Rules.{rules}
-use Rattle.c_board.proofs.settle.Reads as reads
-use Rattle.c_board.proofs.settle.Lts as lts
-use Rattle.c_board.proofs.put_board.Reads as put_board_reads
 use Rattle.c_board.proofs.settle.Goals as goal
 
 -- src/lib.rt:128:9

@@ -1,15 +1,10 @@
-
-use Prim.Native.Nat.{◌-◌, ◌≤◌, ◌<◌}
-use mathlib.Core.Path.{◌≡◌, sym}
+use mathlib.Core.Path.{sym}
 use native.Mathlib.Omega.{arith}
-use lib.ListN.{length, replicate}
-use lib.Seq.{paste, paste-zero}
-use borrow.Author.Rules.{rules}
+use lib.ListN.{replicate}
+use lib.Seq.{paste-zero}
 use Rattle.c_section.proofs.Arrays.{filled_turn, filled_all}
 use Rattle.c_board.specs.Words.{whose_given}
 use Rattle.c_board.proofs.Words.{whose_many, whose_there}
-use Rattle.c_board.proofs.whose_given.Reads as reads
-use Rattle.c_board.proofs.whose_given.Lts as lts
 use Rattle.c_board.proofs.whose_given.Goals as goal
 
 -- src/lib.rt:58:5

@@ -1,15 +1,8 @@
-
-use Prim.Native.Nat.{◌-◌, ◌≤◌, ◌<◌}
-use mathlib.Core.Path.{◌≡◌, sym}
-use native.Mathlib.Omega.{arith}
+use Prim.Native.Nat.{◌-◌, ◌≤◌}
+use mathlib.Core.Path.{◌≡◌}
 use lib.ListN.{length, replicate}
-use lib.Seq.{paste, paste-zero}
-use borrow.Author.Rules.{rules}
-use Rattle.c_section.proofs.Arrays.{filled_turn, filled_all}
+use lib.Seq.{paste}
 use Rattle.c_board.specs.Words.{whose_given}
-use Rattle.c_board.proofs.Words.{whose_many, whose_there}
-use Rattle.c_board.proofs.whose_given.Reads as reads
-use Rattle.c_board.proofs.whose_given.Lts as lts
 use Rattle.c_board.proofs.whose_given.Given as goal
 
 abbrev pub invariant-loop-i : goal.invariant-loop-i

@@ -1,12 +1,6 @@
-
 use mathlib.Core.Path.{◌∙◌}
 use native.Mathlib.Omega.{arith}
 use Rattle.c_board.proofs.Words.{ids_of, mark_of, next_of}
-use borrow.Author.Rules.{rules}
-use Rattle.c_board.proofs.word_of.Reads as reads
-use Rattle.c_board.proofs.word_of.Lts as lts
-use Rattle.c_board.proofs.ids_word.Reads as ids_word_reads
-use Rattle.c_board.proofs.mark_word.Reads as mark_word_reads
 use Rattle.c_board.proofs.word_of.Goals as goal
 
 -- src/lib.rt:101:9

@@ -1,5 +1,4 @@
 -- `c_command_writer::are_four_same`, word by word.
-use borrow.Author.Rules.{rules}
 use mathlib.Core.Bool.{true}
 use mathlib.Core.Path.{◌≡◌}
 use lib.Dec.{eqb}

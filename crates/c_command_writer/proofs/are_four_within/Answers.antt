@@ -1,5 +1,4 @@
 -- `c_command_writer::are_four_within`, word by word.
-use borrow.Author.Rules.{rules}
 use Prim.Native.Nat.{◌^◌}
 use mathlib.Core.Bool.{true}
 use mathlib.Core.Path.{◌≡◌, sym, ◌∙◌}

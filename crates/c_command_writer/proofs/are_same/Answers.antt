@@ -1,10 +1,7 @@
 -- `c_command_writer::are_same`: what is left says what the whole says.
-use Prim.Native.Nat.{◌-◌, ◌≤◌}
-use mathlib.Core.Path.{◌≡◌, refl, sym, ◌∙◌}
+use mathlib.Core.Path.{refl, sym, ◌∙◌}
 use native.Mathlib.Omega.{arith}
-use lib.ListN.{length, drop}
 use borrow.Author.Tests.{eq-eqb, ne_eqb}
-use Rattle.c_command_writer.specs.Words.{same}
 use Rattle.c_command_writer.proofs.Words.{turn, stop, same_step, same_end}
 use Rattle.c_command_writer.proofs.are_same.Goals as goal
 

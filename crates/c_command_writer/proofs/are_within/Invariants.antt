@@ -1,14 +1,8 @@
 -- `c_command_writer::are_within`: what is left says what the whole says.
-use Prim.Native.Nat.{ℕ, ◌-◌, ◌≤◌}
-use mathlib.Core.Path.{◌≡◌, refl, ap, sym, ◌∙◌}
-use native.Mathlib.Omega.{arith}
+use Prim.Native.Nat.{◌-◌, ◌≤◌}
+use mathlib.Core.Path.{◌≡◌}
 use lib.ListN.{length, drop}
-use borrow.Author.Tests.{not-true, not-false}
 use Rattle.c_command_writer.specs.Words.{within}
-use Rattle.c_command_writer.proofs.Words.{turn, stop, within_step, within_end}
-use lib.Dec.{ltb}
-use lib.ListN.{get_or}
-use Prim.Native.Nat.{◌^◌}
 use Rattle.c_command_writer.proofs.are_within.Given as goal
 
 abbrev pub invariant-loop-i : goal.invariant-loop-i

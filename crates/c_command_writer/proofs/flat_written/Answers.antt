@@ -1,5 +1,4 @@
 -- `c_command_writer::flat_written` meets its contract.
-use borrow.Author.Rules.{rules}
 use Rattle.c_command_writer.specs.Words.{flat_written}
 use Rattle.c_command_writer.proofs.flat_written.Goals as goal
 

@@ -1,5 +1,4 @@
 -- `c_command_writer::is_within`: what lies over the width is 0.
-use borrow.Author.Rules.{rules}
 use Rattle.c_command_writer.proofs.Words.{within_64, within_shift}
 use Rattle.c_command_writer.proofs.is_within.Goals as goal
 

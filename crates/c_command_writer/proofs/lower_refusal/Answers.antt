@@ -1,5 +1,4 @@
 -- `c_command_writer::lower_refusal` meets its contract.
-use borrow.Author.Rules.{rules}
 use borrow.Author.Tests.{lt-ltb, le-ltb}
 use Rattle.c_command_writer.proofs.lower_refusal.Goals as goal
 

@@ -1,5 +1,4 @@
 -- `c_command_writer::word_at` meets its contract.
-use borrow.Author.Rules.{rules}
 use mathlib.Core.Path.{sym}
 use lib.ListN.{get_or-eq_default}
 use Rattle.c_command_writer.proofs.word_at.Goals as goal

@@ -1,5 +1,4 @@
 -- `c_daterange::flat_daterange`: a reading, or a refusal.
-use borrow.Author.Rules.{rules}
 use Rattle.c_daterange.specs.FlatDaterange.{flat_daterange}
 use Rattle.c_daterange.proofs.flat_daterange.Goals as goal
 

@@ -1,5 +1,4 @@
 -- `c_daterange::name_number`, name by name.
-use borrow.Author.Rules.{rules}
 use Rattle.c_daterange.specs.FlatDaterange.{name_number}
 use Rattle.c_daterange.proofs.name_number.Goals as goal
 

@@ -1,5 +1,4 @@
 -- `c_descriptor_writer::count_in_descriptor`, by kind and mode.
-use borrow.Author.Rules.{rules}
 use Rattle.c_descriptor_writer.proofs.count_in_descriptor.Goals as goal
 
 pub returns-in-Program : goal.returns-in-Program

@@ -1,6 +1,5 @@
 -- `c_descriptor_writer::descriptor_refusal`: 31, and then the words' own.
-use borrow.Author.Rules.{rules}
-use mathlib.Core.Path.{◌≡◌, sym, ◌∙◌}
+use mathlib.Core.Path.{sym, ◌∙◌}
 use borrow.Author.Tests.{not-true, not-false}
 use Rattle.c_descriptor_writer.specs.ItemGiven.{descriptor_refusal}
 use Rattle.c_descriptor_writer.proofs.descriptor_refusal.Goals as goal

@@ -1,6 +1,5 @@
 -- `c_descriptor_writer::has_eidr`: the kind, then the UPID's type.
-use borrow.Author.Rules.{rules}
-use mathlib.Core.Path.{◌≡◌, sym, ◌∙◌}
+use mathlib.Core.Path.{sym, ◌∙◌}
 use borrow.Author.Tests.{eq-eqb, ne_eqb}
 use Rattle.c_descriptor_writer.proofs.has_eidr.Goals as goal
 

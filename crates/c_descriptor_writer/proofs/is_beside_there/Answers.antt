@@ -1,5 +1,4 @@
 -- `c_descriptor_writer::is_beside_there`: of an EIDR all words, of components their places.
-use borrow.Author.Rules.{rules}
 use Prim.Native.Nat.{ℕ, ◌+◌, ◌*◌}
 use mathlib.Core.Bool.{true, false}
 use mathlib.Core.List.{List}

@@ -1,6 +1,5 @@
 -- `c_descriptor_writer::is_item_seen`: the view that the last two words are.
-use borrow.Author.Rules.{rules}
-use mathlib.Core.Path.{◌≡◌, ◌∙◌}
+use mathlib.Core.Path.{◌∙◌}
 use Rattle.c_descriptor_writer.specs.ItemWords.{item_seen}
 use Rattle.c_descriptor_writer.proofs.is_item_seen.Goals as goal
 

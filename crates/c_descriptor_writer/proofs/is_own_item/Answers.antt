@@ -1,5 +1,4 @@
 -- `c_descriptor_writer::is_own_item` meets its contract.
-use borrow.Author.Rules.{rules}
 use mathlib.Core.Path.{ap, ◌∙◌}
 use lib.ListN.{drop}
 use Rattle.c_items.specs.FlatItem.{flat_step, flat_item}

@@ -1,12 +1,8 @@
 -- `c_descriptor_writer::padded`: the first words stand in the array.
-use borrow.Author.Rules.{rules}
-use Prim.Native.Nat.{ℕ, ◌-◌, ◌*◌, ◌≤◌}
-use mathlib.Core.List.{List}
-use mathlib.Core.Path.{◌≡◌, refl, ap, sym, ◌∙◌}
-use native.Mathlib.Nat.{mul-one}
+use mathlib.Core.Path.{refl, ◌∙◌}
 use native.Mathlib.Omega.{arith}
-use lib.ListN.{length, get_or, drop, replicate, length-set}
-use lib.Seq.{paste, paste-zero}
+use lib.ListN.{replicate, length-set}
+use lib.Seq.{paste-zero}
 use Rattle.c_section.proofs.Arrays.{filled_turn, filled_all}
 use Rattle.c_command_writer.specs.Words.{places_of}
 use Rattle.c_descriptor_writer.specs.ItemGiven.{first_word, padded_words}

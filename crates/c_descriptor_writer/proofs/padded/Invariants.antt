@@ -1,17 +1,10 @@
 -- `c_descriptor_writer::padded`: the first words stand in the array.
-use borrow.Author.Rules.{rules}
-use Prim.Native.Nat.{ℕ, ◌-◌, ◌*◌, ◌≤◌}
-use mathlib.Core.List.{List}
-use mathlib.Core.Path.{◌≡◌, refl, ap, sym, ◌∙◌}
-use native.Mathlib.Nat.{mul-one}
-use native.Mathlib.Omega.{arith}
-use lib.ListN.{length, get_or, drop, replicate, length-set}
-use lib.Seq.{paste, paste-zero}
-use Rattle.c_section.proofs.Arrays.{filled_turn, filled_all}
+use Prim.Native.Nat.{◌-◌, ◌≤◌}
+use mathlib.Core.Path.{◌≡◌}
+use lib.ListN.{length, replicate}
+use lib.Seq.{paste}
 use Rattle.c_command_writer.specs.Words.{places_of}
-use Rattle.c_descriptor_writer.specs.ItemGiven.{first_word, padded_words}
-use Rattle.c_command_writer.proofs.Words.{places_length, places_at}
-use Rattle.c_descriptor_writer.proofs.FilledUp.{word_at_place}
+use Rattle.c_descriptor_writer.specs.ItemGiven.{first_word}
 use Rattle.c_descriptor_writer.proofs.padded.Given as goal
 
 abbrev pub invariant-loop-i : goal.invariant-loop-i

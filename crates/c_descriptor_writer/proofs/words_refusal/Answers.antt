@@ -1,5 +1,4 @@
 -- `c_descriptor_writer::words_refusal`, test by test.
-use borrow.Author.Rules.{rules}
 use Prim.Native.Nat.{ℕ}
 use mathlib.Core.Bool.{Bool, true, ◌&&◌}
 use mathlib.Core.List.{List}
@@ -7,7 +6,6 @@ use mathlib.Core.Path.{◌≡◌, ap, sym, ◌∙◌}
 use lib.ListN.{drop}
 use borrow.Author.Tests.{not-true, not-false}
 use Rattle.c_command_writer.specs.Words.{within}
-use Rattle.descriptor.specs.declared.Descriptor.{Descriptor}
 use Rattle.descriptor_measure.specs.Writing.{count_beside}
 use Rattle.c_descriptor_writer.specs.ItemGiven.{own_item, words_refusal}
 use Rattle.c_descriptor_writer.specs.ItemWords.{item_widths, beside_within, beside_there}

@@ -1,5 +1,4 @@
 -- `c_descriptor_writer::write_descriptor_words`: the words that are missing are 0.
-use borrow.Author.Rules.{rules}
 use Prim.Native.Nat.{ℕ}
 use mathlib.Core.List.{List}
 use mathlib.Core.Path.{ap, ◌∙◌}

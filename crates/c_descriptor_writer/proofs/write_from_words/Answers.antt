@@ -1,5 +1,4 @@
 -- `c_descriptor_writer::write_from_words`: where the words are refused, the value is tried on no byte.
-use borrow.Author.Rules.{rules}
 use Prim.Native.Nat.{ℕ, ◌≤◌}
 use mathlib.Core.Bool.{◌&&◌}
 use mathlib.Core.List.{List, ◌++◌}

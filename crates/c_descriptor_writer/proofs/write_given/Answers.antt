@@ -1,5 +1,4 @@
 -- `c_descriptor_writer::write_given`, without components or with some.
-use borrow.Author.Rules.{rules}
 use Prim.Native.Nat.{ℕ}
 use mathlib.Core.List.{List, []}
 use mathlib.Core.Path.{◌≡◌, refl}

@@ -1,9 +1,8 @@
 -- `feed_words`: what `feed` answers, and the state kept where there is no refusal.
-use mathlib.Core.Path.{◌≡◌, ap, sym, ◌∙◌}
+use mathlib.Core.Path.{ap, sym, ◌∙◌}
 use Rattle.transport.specs.declared.Assembler.{Assembler}
 use Rattle.transport.specs.Assembler.{FedTo, fed_of}
 use Rattle.c_packet.specs.PacketWords.{fed_number, kept_fed}
-use borrow.Author.Rules.{rules}
 use Rattle.c_packet.proofs.feed_words.Goals as goal
 
 pub returns-in-Is : goal.returns-in-Is

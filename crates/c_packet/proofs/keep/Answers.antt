@@ -5,7 +5,6 @@ use mathlib.Core.Path.{ap, ◌∙◌}
 use native.Mathlib.Omega.{arith}
 use lib.ListN.{set, length-set}
 use Rattle.c_packet.proofs.Words.{four_set}
-use borrow.Author.Rules.{rules}
 use Rattle.c_packet.proofs.keep.Goals as goal
 
 pub bounds-words-1 : goal.bounds-words-1

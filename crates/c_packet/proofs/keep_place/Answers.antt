@@ -4,7 +4,6 @@ use mathlib.Core.List.{List}
 use mathlib.Core.Path.{ap, ◌∙◌}
 use lib.ListN.{set}
 use Rattle.c_packet.proofs.Words.{two_set}
-use borrow.Author.Rules.{rules}
 use Rattle.c_packet.proofs.keep_place.Goals as goal
 
 pub returns-then-words-ge-STATE_WORDS : goal.returns-then-words-ge-STATE_WORDS

@@ -1,6 +1,5 @@
 -- `number`: each refusal's number.
 use Rattle.transport_packet.specs.Packet.{number_of}
-use borrow.Author.Rules.{rules}
 use Rattle.c_packet.proofs.number.Goals as goal
 
 pub returns-in-NotAPacket : goal.returns-in-NotAPacket

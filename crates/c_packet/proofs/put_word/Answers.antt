@@ -1,7 +1,6 @@
 -- `put_word`: no word changes past the end.
 use mathlib.Core.Path.{sym}
 use Rattle.c_packet.proofs.Words.{set_past}
-use borrow.Author.Rules.{rules}
 use Rattle.c_packet.proofs.put_word.Goals as goal
 
 pub returns-else-at-words : goal.returns-else-at-words

@@ -1,7 +1,6 @@
 -- `start_words`: the fresh state, kept.
 use mathlib.Core.Path.{ap, ◌∙◌}
 use Rattle.c_packet.specs.PacketWords.{kept_in}
-use borrow.Author.Rules.{rules}
 use Rattle.c_packet.proofs.start_words.Goals as goal
 
 pub returns : goal.returns

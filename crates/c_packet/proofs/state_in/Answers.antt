@@ -1,5 +1,4 @@
 -- `state_in`: the four words.
-use borrow.Author.Rules.{rules}
 use Rattle.c_packet.proofs.state_in.Goals as goal
 
 pub returns : goal.returns

@@ -1,11 +1,10 @@
 -- `take_words`: what `take` answers, and the state kept; the two words that stay need not be stored.
-use mathlib.Core.Path.{◌≡◌, ap, sym, ◌∙◌}
+use mathlib.Core.Path.{ap, sym, ◌∙◌}
 use Rattle.transport.specs.declared.Assembler.{Assembler}
 use Rattle.transport.specs.declared.Taken.{Taken}
 use Rattle.transport.specs.Assembler.{TakenTo, holding, taken_of}
 use Rattle.transport.proofs.Answers.{later, take_keeps}
 use Rattle.c_packet.specs.PacketWords.{state_in, kept_in, taken_number, kept_taken}
-use borrow.Author.Rules.{rules}
 use Rattle.c_packet.proofs.take_words.Goals as goal
 
 pub returns-in-Section : goal.returns-in-Section

@@ -1,5 +1,4 @@
 -- `c_section::flat_time` meets its contract.
-use borrow.Author.Rules.{rules}
 use Rattle.c_section.proofs.flat_time.Goals as goal
 
 pub returns-in-Immediate : goal.returns-in-Immediate

@@ -1,5 +1,4 @@
 -- `c_section_writer::header_from` meets its contract.
-use borrow.Author.Rules.{rules}
 use Rattle.c_section_writer.specs.SectionGiven.{header_from}
 use Rattle.c_section_writer.proofs.header_from.Goals as goal
 

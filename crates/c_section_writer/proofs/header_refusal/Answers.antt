@@ -1,5 +1,4 @@
 -- `c_section_writer::header_refusal`, test by test.
-use borrow.Author.Rules.{rules}
 use mathlib.Core.Path.{◌≡◌, ap, sym, ◌∙◌}
 use borrow.Author.Tests.{not-true, not-false}
 use Rattle.c_section.specs.Flat.{flat_header, flat_header_read}

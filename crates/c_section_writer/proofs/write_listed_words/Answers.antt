@@ -1,9 +1,7 @@
 -- `c_section_writer::write_listed_words`: where the words are refused, the values are tried on no byte.
-use borrow.Author.Rules.{rules}
 use Prim.Native.Nat.{ℕ}
 use mathlib.Core.List.{List, ◌++◌}
 use mathlib.Core.Path.{◌≡◌, ap, ◌∙◌}
-use native.Mathlib.Omega.{arith}
 use Rattle.command.specs.declared.components.InsertComponent.{InsertComponent}
 use Rattle.command_measure.specs.Made.{command_made}
 use Rattle.section_writer.specs.Writing.{section_made, type_of}

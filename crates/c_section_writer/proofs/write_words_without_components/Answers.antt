@@ -1,8 +1,7 @@
 -- `c_section_writer::write_words_without_components`: where the words are refused, the values are tried on no byte.
-use borrow.Author.Rules.{rules}
 use Prim.Native.Nat.{ℕ}
 use mathlib.Core.List.{List, [], ◌++◌}
-use mathlib.Core.Path.{◌≡◌, refl, ap, ◌∙◌}
+use mathlib.Core.Path.{refl, ap, ◌∙◌}
 use native.Mathlib.Omega.{arith}
 use Rattle.command.specs.Command.{array}
 use Rattle.command_measure.specs.Made.{command_made}

@@ -1,13 +1,6 @@
-
-use Rattle.std.proofs.Common.{sym, ◌∙◌, arith, rules}
+use Rattle.std.proofs.Common.{sym, ◌∙◌, arith}
 use Rattle.board.specs.Board.{blank_place}
 use Rattle.channels.proofs.Turns.{close_none, close_refused, close_given}
-use Rattle.channels.proofs.close_break.Reads as reads
-use Rattle.channels.proofs.close_break.Lts as lts
-use Rattle.board.proofs.blank_place.Reads as blank_place_reads
-use Rattle.board.proofs.place_of.Reads as place_of_reads
-use Rattle.channels.proofs.refused.Reads as refused_reads
-use Rattle.channels.proofs.seen.Reads as seen_reads
 use Rattle.channels.proofs.close_break.Goals as goal
 
 -- src/lib.rt:138:9

@@ -1,9 +1,5 @@
-
-use Rattle.std.proofs.Common.{◌≡◌, ◌+◌, ◌-◌, ◌<◌, ◌≤◌, length, drop, sym, ◌∙◌, ⊎_elim, arith, rules}
-use Rattle.board.specs.Board.{breaks_of}
+use Rattle.std.proofs.Common.{◌<◌, length, arith, rules}
 use Rattle.channels.proofs.Views.{count_used, count_free, count_ends}
-use Rattle.channels.proofs.count.Reads as reads
-use Rattle.channels.proofs.count.Lts as lts
 use Rattle.channels.proofs.count.Goals as goal
 use Rattle.channels.proofs.count.Goals.{then-p, else-p}
 
@@ -17,8 +13,8 @@ loop-i-preserved c =
     let ps = c.args.places in
     let h : c.loop-i.i < length ps = search rules in
     elim c.if-p.branch [
-      then-p w ↦ omega (arith, c.loop-i-test.true, w.n-is, count_used ps c.loop-i.i h w.if-p.true)
-    | else-p w ↦ omega (arith, c.loop-i-test.true, w.n-is, count_free ps c.loop-i.i h w.if-p.false)
+      | then-p w ↦ omega (arith, c.loop-i-test.true, w.n-is, count_used ps c.loop-i.i h w.if-p.true)
+      | else-p w ↦ omega (arith, c.loop-i-test.true, w.n-is, count_free ps c.loop-i.i h w.if-p.false)
     ]
 
 -- src/lib.rt:68:1

@@ -1,9 +1,5 @@
-
-use Rattle.std.proofs.Common.{◌≡◌, ◌+◌, ◌-◌, ◌<◌, ◌≤◌, length, drop, sym, ◌∙◌, ⊎_elim, arith, rules}
+use Rattle.std.proofs.Common.{◌≡◌, ◌+◌, ◌-◌, ◌≤◌, length, drop}
 use Rattle.board.specs.Board.{breaks_of}
-use Rattle.channels.proofs.Views.{count_used, count_free, count_ends}
-use Rattle.channels.proofs.count.Reads as reads
-use Rattle.channels.proofs.count.Lts as lts
 use Rattle.channels.proofs.count.Given as goal
 
 abbrev pub invariant-loop-i : goal.invariant-loop-i

@@ -1,8 +1,4 @@
-
-use Rattle.std.proofs.Common.{rules, eq-eqb, ne_eqb}
-use Rattle.channels.proofs.seen_as.Reads as reads
-use Rattle.channels.proofs.seen_as.Lts as lts
-use Rattle.board.proofs.blank_place.Reads as blank_place_reads
+use Rattle.std.proofs.Common.{eq-eqb, ne_eqb}
 use Rattle.channels.proofs.seen_as.Goals as goal
 
 -- src/lib.rt:43:1

@@ -1,6 +1,5 @@
 -- `command::read_command`, by the type.
 use Rattle.command.proofs.Payloads.{of_null, of_signal}
-use borrow.Author.Rules.{rules}
 use Rattle.command.proofs.read_command.Goals as goal
 
 pub returns-in-0 : goal.returns-in-0

@@ -1,6 +1,5 @@
 -- `command::read_other`, by the type.
 use Rattle.command.proofs.Payloads.{of_insert_lem, of_reservation, of_private_lem, of_none}
-use borrow.Author.Rules.{rules}
 use Rattle.command.proofs.read_other.Goals as goal
 
 pub returns-in-5 : goal.returns-in-5

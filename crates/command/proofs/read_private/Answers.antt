@@ -1,7 +1,6 @@
 -- `command::read_private`: four bytes, and the rest behind them.
 use native.Mathlib.Omega.{arith}
 use Rattle.command.proofs.Payloads.{no_identifier, identifier_is, identified}
-use borrow.Author.Rules.{rules}
 use Rattle.command.proofs.read_private.Goals as goal
 
 pub returns-then-payload-lt4 : goal.returns-then-payload-lt4

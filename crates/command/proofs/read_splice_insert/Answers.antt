@@ -1,7 +1,6 @@
 -- `command::read_splice_insert` meets its contract.
-use mathlib.Core.Path.{◌≡◌, sym, ◌∙◌}
+use mathlib.Core.Path.{sym, ◌∙◌}
 use Rattle.command.proofs.Payloads.{insertion, no_insertion}
-use borrow.Author.Rules.{rules}
 use Rattle.command.proofs.read_splice_insert.Goals as goal
 
 pub returns-in-Got : goal.returns-in-Got

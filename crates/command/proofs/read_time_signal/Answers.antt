@@ -1,7 +1,6 @@
 -- `command::read_time_signal` meets its contract.
-use mathlib.Core.Path.{◌≡◌, sym, ◌∙◌}
+use mathlib.Core.Path.{sym, ◌∙◌}
 use Rattle.command.proofs.Payloads.{signal, no_signal}
-use borrow.Author.Rules.{rules}
 use Rattle.command.proofs.read_time_signal.Goals as goal
 
 pub returns-in-Got : goal.returns-in-Got

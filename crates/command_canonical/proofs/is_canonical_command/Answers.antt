@@ -1,7 +1,6 @@
 -- `command_canonical::is_canonical_command`, by the type.
 use native.Mathlib.Omega.{arith}
 use Rattle.command_canonical.proofs.Commands.{of_null, of_insert_lem, of_signal, of_reservation, of_private_lem, of_none}
-use borrow.Author.Rules.{rules}
 use Rattle.command_canonical.proofs.is_canonical_command.Goals as goal
 
 pub returns-in-0 : goal.returns-in-0

@@ -3,7 +3,6 @@ use mathlib.Core.Path.{◌∙◌}
 use Rattle.command.specs.Insert.{insert}
 use Rattle.command_canonical.proofs.Inserts.{no_cancel, insert_reserved, a_cancel, an_insert}
 use Rattle.command_canonical.proofs.Walks.{by_table, not_by_table, exact_is}
-use borrow.Author.Rules.{rules}
 use Rattle.command_canonical.proofs.is_canonical_insert.Goals as goal
 
 pub returns-then-s-lt5 : goal.returns-then-s-lt5

@@ -2,7 +2,6 @@
 use mathlib.Core.Path.{◌∙◌}
 use Rattle.splice_time.specs.Time.{splice_time}
 use Rattle.command_canonical.proofs.Walks.{exact_is}
-use borrow.Author.Rules.{rules}
 use Rattle.command_canonical.proofs.is_canonical_time.Goals as goal
 
 pub returns : goal.returns

@@ -3,7 +3,6 @@ use mathlib.Core.Path.{ap, sym}
 use lib.ListN.{length}
 use Rattle.command_canonical.specs.Private.{exact}
 use Rattle.command_canonical.specs.declared.Form.{Form}
-use borrow.Author.Rules.{rules}
 use Rattle.command_canonical.proofs.is_exact.Goals as goal
 
 pub returns-in-Ends : goal.returns-in-Ends

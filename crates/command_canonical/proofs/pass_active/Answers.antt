@@ -2,7 +2,6 @@
 use native.Mathlib.Omega.{arith}
 use Rattle.command_canonical.proofs.Inserts.{no_flags, flags_reserved, no_mode, no_active_lem, lacks_active, an_active}
 use Rattle.command_canonical.proofs.Walks.{told_ends, told_other}
-use borrow.Author.Rules.{rules}
 use Rattle.command_canonical.proofs.pass_active.Goals as goal
 
 pub returns-then-s-le5 : goal.returns-then-s-le5

@@ -1,7 +1,6 @@
 -- `command_canonical::pass_break`, return by return.
 use native.Mathlib.Omega.{arith}
 use Rattle.command_canonical.proofs.Inserts.{no_break, lacks_break, break_reserved, no_duration, a_break}
-use borrow.Author.Rules.{rules}
 use Rattle.command_canonical.proofs.pass_break.Goals as goal
 
 pub returns-then-not-flagged : goal.returns-then-not-flagged

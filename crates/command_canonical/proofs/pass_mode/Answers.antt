@@ -1,7 +1,6 @@
 -- `command_canonical::pass_mode`, return by return.
 use native.Mathlib.Omega.{arith}
 use Rattle.command_canonical.proofs.Inserts.{by_program_lem, no_count, immediate_none, timed_none, by_components}
-use borrow.Author.Rules.{rules}
 use Rattle.command_canonical.proofs.pass_mode.Goals as goal
 
 pub returns-then-program : goal.returns-then-program

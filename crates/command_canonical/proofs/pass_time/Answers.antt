@@ -1,7 +1,6 @@
 -- `command_canonical::pass_time`: by how many bytes are left, and by the first of them.
 use native.Mathlib.Omega.{arith}
 use Rattle.command_canonical.proofs.Times.{no_time_lem, unspecified, no_form, no_ticks, specified}
-use borrow.Author.Rules.{rules}
 use Rattle.command_canonical.proofs.pass_time.Goals as goal
 
 pub returns-then-s-at : goal.returns-then-s-at

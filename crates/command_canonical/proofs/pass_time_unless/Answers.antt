@@ -1,6 +1,5 @@
 -- `command_canonical::pass_time_unless` meets its contract.
 use Rattle.command_canonical.proofs.Inserts.{at_once, at_a_time}
-use borrow.Author.Rules.{rules}
 use Rattle.command_canonical.proofs.pass_time_unless.Goals as goal
 
 pub returns-then-immediate : goal.returns-then-immediate

@@ -4,7 +4,6 @@ use mathlib.Core.Path.{ap, ◌∙◌}
 use Rattle.command.specs.Command.{array}
 use Rattle.command_measure.specs.Made.{measured_of}
 use Rattle.command_measure.proofs.Making.{countable, command_insert, made_without_components}
-use borrow.Author.Rules.{rules}
 use borrow.Enum.Refused.{opened}
 use Rattle.command_measure.proofs.measure_command.Goals as goal
 

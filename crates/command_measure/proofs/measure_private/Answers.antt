@@ -3,7 +3,6 @@ use Prim.Native.Nat.{◌+◌, ◌≤◌}
 use mathlib.Core.Path.{sym, ◌∙◌}
 use native.Mathlib.Omega.{arith}
 use lib.ListN.{length}
-use borrow.Author.Rules.{rules}
 use borrow.Author.Tests.{leb-true, leb-false, not-true, not-false}
 use Rattle.command_measure.proofs.Making.{private_outside, private_inside}
 use Rattle.command_measure.proofs.measure_private.Goals as goal

@@ -1,10 +1,9 @@
 -- `command_measure::measure_without_components`, by the command.
 use mathlib.Core.List.{[]}
-use mathlib.Core.Path.{◌≡◌, refl, ap, ap₂, sym, ◌∙◌}
+use mathlib.Core.Path.{◌∙◌}
 use native.Mathlib.Omega.{arith}
 use Rattle.command.specs.Command.{array}
 use Rattle.command_measure.proofs.Making.{countable, command_null, command_bandwidth, command_insert, command_time, command_private}
-use borrow.Author.Rules.{rules}
 use Rattle.command_measure.proofs.measure_without_components.Goals as goal
 
 pub returns-in-SpliceNull : goal.returns-in-SpliceNull

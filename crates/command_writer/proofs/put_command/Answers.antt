@@ -6,7 +6,6 @@ use Rattle.bit_stores.specs.Written.{bytes_in}
 use Rattle.table.specs.Lent.{stored}
 use Rattle.table.specs.Writing.{Made}
 use Rattle.command_measure.proofs.Making.{insert_is, made_without_components}
-use borrow.Author.Rules.{rules}
 use borrow.Enum.Refused.{opened}
 use Rattle.command_writer.proofs.put_command.Goals as goal
 

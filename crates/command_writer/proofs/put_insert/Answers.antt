@@ -1,8 +1,7 @@
 -- `command_writer::put_insert`: where there is room.
 use mathlib.Core.List.{[]}
 use mathlib.Core.Path.{◌≡◌, sym, ◌∙◌}
-use native.Mathlib.Omega.{arith}
-use Prim.Native.Nat.{ℕ, ◌+◌, ◌≤◌}
+use Prim.Native.Nat.{◌+◌, ◌≤◌}
 use lib.ListN.{length}
 use Rattle.bit_stores.specs.Written.{refusal_in, bytes_in}
 use Rattle.table.specs.Writing.{contents}

@@ -1,14 +1,11 @@
 -- `command_writer::put_without_components`: where there is room.
 use mathlib.Core.List.{[]}
-use mathlib.Core.Path.{◌≡◌, sym, ◌∙◌}
-use Prim.Native.Nat.{ℕ, ◌+◌, ◌≤◌}
+use mathlib.Core.Path.{sym, ◌∙◌}
 use lib.ListN.{length}
 use Rattle.command.specs.Command.{array}
-use Rattle.bit_stores.specs.Written.{refusal_in, bytes_in}
 use Rattle.table.proofs.Bits.{bytes_all}
 use Rattle.command_measure.specs.Made.{command_made}
 use Rattle.command_writer.proofs.Payloads.{room_there, room_none}
-use borrow.Author.Rules.{rules}
 use Rattle.command_writer.proofs.put_without_components.Goals as goal
 
 pub store_without_components-requires : goal.store_without_components-requires

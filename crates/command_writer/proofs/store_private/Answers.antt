@@ -1,11 +1,9 @@
 -- `command_writer::store_private`: the identifier, then the view.
-use mathlib.Core.Path.{◌≡◌, refl, ap, sym, ◌∙◌}
-use native.Mathlib.Omega.{arith}
+use mathlib.Core.Path.{ap}
 use Rattle.bit_stores.proofs.Tables.{pens_append, pens_same}
 use Rattle.table.specs.Bits.{bits_of_num, bits_of}
 use Rattle.table.specs.Lent.{viewed}
 use Rattle.table.proofs.Bits.{all_num}
-use borrow.Author.Rules.{rules}
 use Rattle.command_writer.proofs.store_private.Goals as goal
 
 pub returns : goal.returns

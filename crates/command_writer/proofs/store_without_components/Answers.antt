@@ -1,9 +1,6 @@
 -- `command_writer::store_without_components`, by the command.
-use mathlib.Core.Path.{◌≡◌, refl, ap, ap₂, sym, ◌∙◌}
-use native.Mathlib.Omega.{arith}
-use Prim.Native.Nat.{ℕ, ◌≤◌}
-use mathlib.Core.List.{List, []}
-use lib.ListN.{length}
+use mathlib.Core.Path.{ap, sym, ◌∙◌}
+use mathlib.Core.List.{[]}
 use Rattle.table.specs.Lent.{stored}
 use Rattle.table.specs.Writing.{contents}
 use Rattle.table.proofs.Stores.{stored_nil}
@@ -15,7 +12,6 @@ use Rattle.command_measure.specs.Made.{counted, command_made}
 use Rattle.command.specs.declared.SpliceCommand.{SpliceCommand}
 use Rattle.command_measure.proofs.Making.{countable}
 use Rattle.command_writer.proofs.Payloads.{Payload, command_insert_payload, command_time_payload, command_private_payload, null_bytes, bandwidth_bytes, store_room, store_all, private_bits}
-use borrow.Author.Rules.{rules}
 use Rattle.command_writer.proofs.store_without_components.Goals as goal
 
 pub store_insert_without_components-requires : goal.store_insert_without_components-requires

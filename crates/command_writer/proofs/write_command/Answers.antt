@@ -3,7 +3,6 @@ use mathlib.Core.List.{[]}
 use Rattle.command.specs.Command.{array}
 use Rattle.command_measure.proofs.Making.{insert_is, made_without_components}
 use Rattle.command_writer.proofs.Payloads.{other_made}
-use borrow.Author.Rules.{rules}
 use borrow.Enum.Refused.{opened}
 use Rattle.command_writer.proofs.write_command.Goals as goal
 

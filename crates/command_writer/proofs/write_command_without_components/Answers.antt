@@ -2,15 +2,14 @@
 use mathlib.Core.List.{[]}
 use mathlib.Core.Path.{◌≡◌, sym, ◌∙◌}
 use native.Mathlib.Omega.{arith}
-use Prim.Native.Nat.{ℕ, ◌+◌, ◌≤◌}
+use Prim.Native.Nat.{◌+◌, ◌≤◌}
 use lib.ListN.{length}
 use Rattle.command.specs.Command.{array}
 use Rattle.command.proofs.Filling.{blank_length}
-use Rattle.bit_stores.specs.Written.{answer_of, refusal_in, bytes_in}
+use Rattle.bit_stores.specs.Written.{answer_of, bytes_in}
 use Rattle.table.proofs.Bits.{bytes_all}
 use Rattle.command_measure.specs.Made.{command_made}
 use Rattle.command_writer.proofs.Payloads.{command_made_lem, answered, wrote_there, refused_later}
-use borrow.Author.Rules.{rules}
 use Rattle.command_writer.proofs.write_command_without_components.Goals as goal
 
 pub store_without_components-requires : goal.store_without_components-requires

@@ -1,10 +1,8 @@
 -- `crc::crc32_plain` meets its contract: the register, taken on over the bytes that are left, is the CRC of the whole.
-use mathlib.Core.Path.{◌≡◌, ◌∙◌, sym, ap}
-use Prim.Native.Nat.{ℕ, ◌≤◌, ◌-◌, ◌+◌}
+use mathlib.Core.Path.{◌∙◌, sym, ap}
+use Prim.Native.Nat.{ℕ, ◌+◌}
 use native.Mathlib.Omega.{arith}
-use borrow.Author.Rules.{rules}
-use lib.ListN.{length, drop}
-use Rattle.crc.specs.Crc.{crc_of}
+use lib.ListN.{drop}
 use Rattle.crc.specs.Private.{crc_bytes}
 use Rattle.crc.proofs.Bytes.{past_none, past_one, past_all}
 use Rattle.crc.proofs.crc32_plain.Goals as goal

@@ -1,8 +1,7 @@
 -- `crc::take_byte` meets its contract: the register, taken on over the bits that are left, is that of all eight.
-use mathlib.Core.Path.{◌≡◌, refl, sym, ap, ◌∙◌}
-use Prim.Native.Nat.{ℕ, ◌-◌, ◌≤◌}
+use mathlib.Core.Path.{refl, sym, ap, ◌∙◌}
+use Prim.Native.Nat.{ℕ, ◌-◌}
 use native.Mathlib.Omega.{arith}
-use borrow.Author.Rules.{rules}
 use lib.Arith.{le-zero}
 use Rattle.crc.specs.Crc.{crc_bits}
 use Rattle.table.specs.Bits.{bits_of_num}

@@ -1,12 +1,8 @@
 -- `crc::take_byte` meets its contract: the register, taken on over the bits that are left, is that of all eight.
-use mathlib.Core.Path.{◌≡◌, refl, sym, ap, ◌∙◌}
-use Prim.Native.Nat.{ℕ, ◌-◌, ◌≤◌}
-use native.Mathlib.Omega.{arith}
-use borrow.Author.Rules.{rules}
-use lib.Arith.{le-zero}
+use mathlib.Core.Path.{◌≡◌}
+use Prim.Native.Nat.{◌≤◌}
 use Rattle.crc.specs.Crc.{crc_bits}
 use Rattle.table.specs.Bits.{bits_of_num}
-use Rattle.crc.proofs.Bytes.{bits_next}
 use Rattle.crc.proofs.take_byte.Given as goal
 
 abbrev pub invariant-loop-left : goal.invariant-loop-left

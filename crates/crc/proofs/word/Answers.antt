@@ -1,12 +1,10 @@
 -- `crc::word` meets its contract: after i bytes n is the number that they make, and it leaves room for a byte.
 use mathlib.Core.Path.{◌≡◌, refl, sym, ap, ◌∙◌, subst}
-use Prim.Native.Nat.{ℕ, ◌+◌, ◌*◌, ◌-◌, ◌^◌, ◌<◌, ◌≤◌}
+use Prim.Native.Nat.{ℕ, ◌+◌, ◌*◌, ◌^◌, ◌<◌}
 use native.Mathlib.Omega.{arith}
 use lib.ListN.{get_or}
 use Rattle.crc.specs.Private.{number_at}
 use Rattle.crc.proofs.Bytes.{number_fits, number_next}
-use Rattle.crc.proofs.word.Reads as reads
-use Rattle.crc.proofs.word.Lts as lts
 use Rattle.crc.proofs.word.Goals as goal
 
 -- the number so far leaves room for a byte

@@ -1,6 +1,5 @@
 -- `crc_table::reverse` meets its contract: it is the definition as code.
 use mathlib.Core.Path.{refl}
-use borrow.Author.Rules.{rules}
 use Rattle.crc_table.specs.Turns.{reversed}
 use Rattle.crc_table.proofs.reverse.Goals as goal
 

@@ -4,7 +4,6 @@ use Prim.Native.Nat.{ℕ, zero, suc, ◌-◌, ◌<◌}
 use native.Mathlib.Numerals.{unary_clauses}
 use native.Mathlib.Omega.{arith}
 use lib.Arith.{le-zero}
-use borrow.Author.Rules.{rules}
 use Rattle.crc_table.specs.Turns.{turn, turns, reversed}
 use Rattle.crc_table.proofs.turned.Goals as goal
 

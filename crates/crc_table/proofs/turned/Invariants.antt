@@ -1,11 +1,6 @@
 -- `crc_table::turned` meets its contract: the steps that are left, after those that were taken, are all of them.
-use mathlib.Core.Path.{◌≡◌, refl, sym, ap, ◌∙◌}
-use Prim.Native.Nat.{ℕ, zero, suc, ◌-◌, ◌<◌}
-use native.Mathlib.Numerals.{unary_clauses}
-use native.Mathlib.Omega.{arith}
-use lib.Arith.{le-zero}
-use borrow.Author.Rules.{rules}
-use Rattle.crc_table.specs.Turns.{turn, turns, reversed}
+use mathlib.Core.Path.{◌≡◌}
+use Rattle.crc_table.specs.Turns.{turns}
 use Rattle.crc_table.proofs.turned.Given as goal
 
 abbrev pub invariant-loop-left : goal.invariant-loop-left

@@ -1,5 +1,4 @@
 -- `daterange::cue_for`, command by command.
-use borrow.Author.Rules.{rules}
 use Rattle.daterange.specs.Choice.{cue_for}
 use Rattle.daterange.proofs.cue_for.Goals as goal
 

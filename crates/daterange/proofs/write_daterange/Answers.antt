@@ -1,5 +1,4 @@
 -- `daterange::write_daterange`: the section's line, or its refusal.
-use borrow.Author.Rules.{rules}
 use Rattle.daterange.proofs.Made.{refused_line, written_line}
 use Rattle.daterange.proofs.write_daterange.Goals as goal
 

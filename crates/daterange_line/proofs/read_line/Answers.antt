@@ -2,7 +2,6 @@
 use native.Mathlib.Omega.{arith}
 use Rattle.daterange_line.proofs.Values.{stands_inside}
 use Rattle.daterange_line.proofs.Answers.{held, refused_read, ready, short_read, enough_read}
-use borrow.Author.Rules.{rules}
 use Rattle.daterange_line.proofs.read_line.Goals as goal
 
 pub find_cue-requires : goal.find_cue-requires

@@ -1,9 +1,7 @@
 -- `daterange_writer::write_line`: 53, or the line by its cue.
-use mathlib.Core.Path.{refl}
 use Rattle.bit_stores.proofs.Writes.{refused_answer}
 use Rattle.daterange_line.specs.declared.Cue.TheVariants.{Cmd, Out, In}
 use Rattle.daterange_writer.proofs.Stored.{quoted_all, quoted_not, made_line, made_not_id, made_not_date}
-use borrow.Author.Rules.{rules}
 use Rattle.daterange_writer.proofs.write_line.Goals as goal
 
 pub past-requires : goal.past-requires

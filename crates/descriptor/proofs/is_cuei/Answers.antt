@@ -1,7 +1,6 @@
 -- `descriptor::is_cuei`, byte by byte.
 use borrow.Author.Tests.{eq-eqb, ne_eqb}
 use Rattle.descriptor.specs.Descriptor.{is_cuei}
-use borrow.Author.Rules.{rules}
 use Rattle.descriptor.proofs.is_cuei.Goals as goal
 
 pub returns-then-identifier-ne67 : goal.returns-then-identifier-ne67

@@ -1,7 +1,6 @@
 -- `descriptor::read_descriptor`, by identifier and tag.
-use mathlib.Core.Path.{◌≡◌, refl, ap, sym, ◌∙◌}
+use mathlib.Core.Path.{sym, ◌∙◌}
 use Rattle.descriptor.proofs.Tags.{is_avail, is_dtmf, is_segmentation, is_time, is_other, is_foreign}
-use borrow.Author.Rules.{rules}
 use Rattle.descriptor.proofs.read_descriptor.Goals as goal
 
 pub returns-in-0 : goal.returns-in-0

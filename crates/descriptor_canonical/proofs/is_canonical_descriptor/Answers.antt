@@ -1,6 +1,5 @@
 -- `descriptor_canonical::is_canonical_descriptor`, test by test.
 use Rattle.descriptor_canonical.proofs.Tests.{envelope_short, envelope_other, envelope_long, envelope_is}
-use borrow.Author.Rules.{rules}
 use Rattle.descriptor_canonical.proofs.is_canonical_descriptor.Goals as goal
 
 pub returns-then-end-lt6 : goal.returns-then-end-lt6

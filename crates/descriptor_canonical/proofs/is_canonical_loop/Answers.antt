@@ -1,11 +1,8 @@
 -- `descriptor_canonical::is_canonical_loop`. The loop's invariant: what is left says what the whole says.
-use Prim.Native.Nat.{◌+◌, ◌-◌, ◌≤◌}
-use mathlib.Core.Path.{◌≡◌, refl, ap}
+use Prim.Native.Nat.{◌+◌}
+use mathlib.Core.Path.{refl, ap}
 use native.Mathlib.Omega.{arith}
-use lib.ListN.{length, drop}
-use Rattle.canonical_form.specs.Descriptor.{canonical_loop}
 use Rattle.descriptor_canonical.proofs.Loops.{loop_few, loop_over, loop_spoilt, loop_turn, loop_end}
-use borrow.Author.Rules.{rules}
 use Rattle.descriptor_canonical.proofs.is_canonical_loop.Goals as goal
 
 pub loop-at-init : goal.loop-at-init

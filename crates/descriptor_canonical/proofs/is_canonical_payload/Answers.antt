@@ -1,7 +1,6 @@
 -- `descriptor_canonical::is_canonical_payload`, by identifier and tag.
 use mathlib.Core.Path.{sym, ◌∙◌}
 use Rattle.descriptor_canonical.proofs.Tests.{is_foreign, is_avail, is_dtmf, is_segmentation, is_time, is_other}
-use borrow.Author.Rules.{rules}
 use Rattle.descriptor_canonical.proofs.is_canonical_payload.Goals as goal
 
 pub returns-in-0 : goal.returns-in-0

@@ -1,8 +1,5 @@
 -- `descriptor_measure::is_alone`, both in turn.
 use Rattle.descriptor_measure.proofs.Tests.{zero_alone, not_alone}
-use mathlib.Core.Path.{sym, ◌∙◌}
-use Rattle.descriptor_measure.specs.Writing.{alone}
-use borrow.Author.Rules.{rules}
 use Rattle.descriptor_measure.proofs.is_alone.Goals as goal
 
 pub returns-then-is_zero : goal.returns-then-is_zero

@@ -1,6 +1,5 @@
 -- `descriptor_measure::is_writable_reserved`, test by test.
 use Rattle.descriptor_measure.proofs.Tests.{reserved_beside, reserved_tag, reserved_other}
-use borrow.Author.Rules.{rules}
 use Rattle.descriptor_measure.proofs.is_writable_reserved.Goals as goal
 
 pub returns-then-not-is_zero : goal.returns-then-not-is_zero

@@ -1,10 +1,8 @@
 -- `descriptor_measure::is_zero`. The loop's invariant: what is left says what the whole says.
 use Prim.Native.Nat.{◌≤◌, ◌-◌}
-use mathlib.Core.Path.{◌≡◌, refl}
-use native.Mathlib.Omega.{arith}
+use mathlib.Core.Path.{◌≡◌}
 use lib.ListN.{length, drop}
 use Rattle.descriptor_measure.specs.Writing.{all_zero}
-use Rattle.descriptor_measure.proofs.Tests.{zero_turn, zero_stop, zero_end}
 use Rattle.descriptor_measure.proofs.is_zero.Given as goal
 
 abbrev pub invariant-loop-i : goal.invariant-loop-i

@@ -1,6 +1,5 @@
 -- `descriptor_writer::write_descriptor`, kind by kind.
 use Rattle.descriptor_writer.proofs.Describing.{as_segmentation, avail_without_components, dtmf_without_components, time_without_components, reserved_without_components}
-use borrow.Author.Rules.{rules}
 use Rattle.descriptor_writer.proofs.write_descriptor.Goals as goal
 
 pub returns-in-Avail : goal.returns-in-Avail

@@ -1,6 +1,5 @@
 -- `descriptor_writer::write_descriptor_without_components`, kind by kind.
 use Rattle.descriptor_writer.proofs.Describing.{as_avail, as_dtmf, as_segmentation, as_time, as_reserved}
-use borrow.Author.Rules.{rules}
 use Rattle.descriptor_writer.proofs.write_descriptor_without_components.Goals as goal
 
 pub returns-in-Avail : goal.returns-in-Avail

@@ -1,14 +1,11 @@
 -- `header_numbers::read_header_numbers`: each number is in the bits of its place.
-use Prim.Native.Nat.{ℕ, ◌/◌, ◌≤◌}
+use Prim.Native.Nat.{◌≤◌}
 use lib.ListN.{length}
-use mathlib.Core.List.{List}
-use mathlib.Core.Path.{◌≡◌, sym}
+use mathlib.Core.Path.{sym}
 use native.Mathlib.Omega.{arith}
-use Rattle.table.specs.Bits.{bits_of, field}
 use Rattle.table.proofs.Fields.{byte_field}
 use Rattle.table.proofs.Reading.{first_bit, field_lt}
 use Rattle.header_numbers.proofs.Places.{too_short, numbers_are, algorithm_of_lem, high_part, low_part}
-use borrow.Author.Rules.{rules}
 use Rattle.header_numbers.proofs.read_header_numbers.Goals as goal
 
 pub returns-then-s-lt11 : goal.returns-then-s-lt11

@@ -1,7 +1,6 @@
 -- `relabel::limit_of`.
-use mathlib.Core.Path.{◌≡◌, refl}
+use mathlib.Core.Path.{refl}
 use Rattle.relabel.proofs.Mades.{limit_is}
-use borrow.Author.Rules.{rules}
 use Rattle.relabel.proofs.limit_of.Goals as goal
 
 pub returns : goal.returns

@@ -1,10 +1,6 @@
 -- `relabel::place_of`: the item's length and the UPID's head are where the definition has them.
-use Prim.Native.Nat.{◌+◌, ◌≤◌, ◌<◌}
-use mathlib.Core.Path.{◌≡◌}
 use native.Mathlib.Omega.{arith}
-use lib.ListN.{length}
 use Rattle.relabel.proofs.Mades.{stop_fits, head_fits, place_is}
-use borrow.Author.Rules.{rules}
 use Rattle.relabel.proofs.place_of.Goals as goal
 
 pub slice_bounds-upid_head-count : goal.slice_bounds-upid_head-count

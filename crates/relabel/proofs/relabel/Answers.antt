@@ -1,12 +1,11 @@
 -- `relabel::relabel`: by the section's frame and its command.
-use mathlib.Core.Path.{◌≡◌, ap, sym, ◌∙◌}
+use mathlib.Core.Path.{ap, sym, ◌∙◌}
 use native.Mathlib.Omega.{arith}
 use Rattle.bit_stores.proofs.Writes.{refused_answer}
 use Rattle.bit_stores.specs.Written.{answer_of, later_of}
-use Rattle.section.proofs.Framing.{Framed, framed, command_at}
+use Rattle.section.proofs.Framing.{framed, command_at}
 use Rattle.table.specs.Writing.{Made}
 use Rattle.relabel.proofs.Mades.{frame_refused, command_unknown, command_malformed, command_is_lem, frame_len}
-use borrow.Author.Rules.{rules}
 use Rattle.relabel.proofs.relabel.Goals as goal
 
 pub returns-in-Refused : goal.returns-in-Refused

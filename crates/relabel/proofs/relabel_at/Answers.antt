@@ -1,9 +1,6 @@
 -- `relabel::relabel_at`: the UPID is tested and stored first, and then all around it.
-use Prim.Native.Nat.{ℕ, ◌+◌, ◌-◌, ◌<◌, ◌≤◌}
-use mathlib.Core.Path.{◌≡◌, refl, ap, sym, ◌∙◌}
-use native.Mathlib.Omega.{arith}
-use Rattle.relabel.proofs.Ats.{refused_at, Stored, wrote_at, all_wrote}
-use borrow.Author.Rules.{rules}
+use mathlib.Core.Path.{sym, ◌∙◌}
+use Rattle.relabel.proofs.Ats.{refused_at, wrote_at, all_wrote}
 use Rattle.relabel.proofs.relabel_at.Goals as goal
 
 pub returns-in-Refused : goal.returns-in-Refused

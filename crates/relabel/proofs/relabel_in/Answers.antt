@@ -1,6 +1,6 @@
 -- `relabel::relabel_in`: an item that is found has its place, and there `relabel_at` does what is asked.
 use Prim.Native.Nat.{ℕ, ◌<◌}
-use mathlib.Core.Path.{◌≡◌, ap, sym, ◌∙◌}
+use mathlib.Core.Path.{ap, sym, ◌∙◌}
 use native.Mathlib.Omega.{arith}
 use borrow.Author.Tests.{not-true, not-false}
 use lib.ListN.{get_or}
@@ -11,7 +11,6 @@ use Rattle.relabel.specs.Private.{placed_made}
 use Rattle.relabel.specs.declared.Place.{Place}
 use Rattle.relabel.proofs.Cuts.{loop_byte, spotted_at, lies}
 use Rattle.relabel.proofs.Mades.{spots_there, none_spotted, made_spotted}
-use borrow.Author.Rules.{rules}
 use Rattle.relabel.proofs.relabel_in.Goals as goal
 
 pub returns-then-not-spots_active : goal.returns-then-not-spots_active

@@ -1,7 +1,6 @@
 -- `relabel::store_around`: two stores, one on the other.
-use mathlib.Core.Path.{◌≡◌, ap, ◌∙◌}
+use mathlib.Core.Path.{ap, ◌∙◌}
 use Rattle.relabel.specs.Private.{sealed}
-use borrow.Author.Rules.{rules}
 use Rattle.relabel.proofs.store_around.Goals as goal
 
 pub returns : goal.returns

@@ -1,7 +1,6 @@
 -- `relabel::store_back`: two stores, and the CRC between them.
-use mathlib.Core.Path.{◌≡◌, refl}
+use mathlib.Core.Path.{refl}
 use Rattle.relabel.proofs.Stores.{back_stored}
-use borrow.Author.Rules.{rules}
 use Rattle.relabel.proofs.store_back.Goals as goal
 
 pub returns : goal.returns

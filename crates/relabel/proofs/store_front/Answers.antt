@@ -1,11 +1,10 @@
 -- `relabel::store_front`: a copy, and four stores over it.
 use Prim.Native.Nat.{ℕ, ◌+◌, ◌*◌}
-use mathlib.Core.Path.{◌≡◌, refl, ap, ◌∙◌}
+use mathlib.Core.Path.{refl, ap, ◌∙◌}
 use native.Mathlib.Omega.{arith}
 use lib.ListN.{length}
 use Rattle.table.proofs.Stores.{length_stored}
 use Rattle.relabel.proofs.Stores.{takes_small, front_stored}
-use borrow.Author.Rules.{rules}
 use Rattle.relabel.proofs.store_front.Goals as goal
 
 pub overflow_add-size-3 : goal.overflow_add-size-3

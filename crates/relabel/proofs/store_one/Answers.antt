@@ -1,6 +1,5 @@
 -- `relabel::store_one`.
 use Rattle.relabel.proofs.Stores.{one_stored}
-use borrow.Author.Rules.{rules}
 use Rattle.relabel.proofs.store_one.Goals as goal
 
 pub returns : goal.returns

@@ -1,6 +1,5 @@
 -- `relabel::store_two`: two stores as one.
 use Rattle.relabel.proofs.Stores.{two_stored}
-use borrow.Author.Rules.{rules}
 use Rattle.relabel.proofs.store_two.Goals as goal
 
 pub returns : goal.returns

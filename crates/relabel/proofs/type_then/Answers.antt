@@ -1,6 +1,5 @@
 -- `relabel::type_then`.
 use Rattle.relabel.proofs.Stores.{type_more}
-use borrow.Author.Rules.{rules}
 use Rattle.relabel.proofs.type_then.Goals as goal
 
 pub returns : goal.returns

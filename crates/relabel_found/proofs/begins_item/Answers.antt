@@ -1,9 +1,6 @@
 -- `relabel_found::begins_item`: no item that was passed begins at the offset.
-use Prim.Native.Nat.{◌-◌, ◌≤◌}
-use mathlib.Core.Path.{◌≡◌}
 use native.Mathlib.Omega.{arith}
-use lib.ListN.{length}
-use Rattle.relabel_found.proofs.Walks.{Begins, begins_first, begins_next, begins_here, begins_past, goes_forward}
+use Rattle.relabel_found.proofs.Walks.{begins_first, begins_next, begins_here, begins_past, goes_forward}
 use Rattle.relabel_found.proofs.begins_item.Goals as goal
 
 pub loop-at-init : goal.loop-at-init

@@ -1,8 +1,6 @@
 -- `relabel_found::components_size`, by the flag.
-use mathlib.Core.Path.{◌≡◌}
 use native.Mathlib.Omega.{arith}
 use borrow.Author.Tests.{eq-eqb, ne_eqb}
-use borrow.Author.Rules.{rules}
 use Rattle.relabel_found.proofs.components_size.Goals as goal
 
 pub returns-then-flags-eq1 : goal.returns-then-flags-eq1

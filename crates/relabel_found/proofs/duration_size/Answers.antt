@@ -1,5 +1,4 @@
 -- `relabel_found::duration_size`, by the flag.
-use mathlib.Core.Path.{◌≡◌}
 use native.Mathlib.Omega.{arith}
 use borrow.Author.Tests.{eq-eqb, ne_eqb}
 use Rattle.relabel_found.proofs.duration_size.Goals as goal

@@ -2,7 +2,6 @@
 use native.Mathlib.Omega.{arith}
 use mathlib.Core.Path.{refl}
 use Rattle.relabel_found.proofs.Titles.{head_low, too_short, no_back, no_bytes, one_more, by_cancel}
-use borrow.Author.Rules.{rules}
 use Rattle.relabel_found.proofs.is_complete.Goals as goal
 
 pub returns-then-payload-lt11 : goal.returns-then-payload-lt11

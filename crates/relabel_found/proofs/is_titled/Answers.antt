@@ -2,7 +2,6 @@
 use native.Mathlib.Omega.{arith}
 use mathlib.Core.Path.{refl, ◌∙◌}
 use Rattle.relabel_found.proofs.Titles.{few_left, low, over, full, other_tag, by_identifier, cuei_in}
-use borrow.Author.Rules.{rules}
 use Rattle.relabel_found.proofs.is_titled.Goals as goal
 
 pub returns-then-items-offset : goal.returns-then-items-offset

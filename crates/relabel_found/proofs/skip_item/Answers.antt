@@ -1,11 +1,10 @@
 -- `relabel_found::skip_item`: the step's tests of the length, in turn; `w` is the place that knows it.
-use Prim.Native.Nat.{◌-◌, ◌≤◌, ◌<◌}
-use mathlib.Core.Path.{◌≡◌, ap, sym}
+use Prim.Native.Nat.{◌-◌, ◌≤◌}
+use mathlib.Core.Path.{ap, sym}
 use lib.ListN.{length}
 use Rattle.descriptor_loop.proofs.Steps.{step_few, step_over, step_full}
 use Rattle.descriptor_loop.specs.declared.Step.{Step}
 use Rattle.relabel_found.proofs.Walks.{next_is}
-use borrow.Author.Rules.{rules}
 use Rattle.relabel_found.proofs.skip_item.Goals as goal
 
 pub returns-then-left-lt6 : goal.returns-then-left-lt6

@@ -1,10 +1,9 @@
 -- `relabel_found::spots_active`: its tests in turn, and the payload of an item that stands there whole.
-use mathlib.Core.Path.{◌≡◌, sym, ◌∙◌}
+use mathlib.Core.Path.{sym, ◌∙◌}
 use native.Mathlib.Omega.{arith}
 use borrow.Author.Tests.{not-true, not-false}
 use Rattle.relabel_found.proofs.Spots.{titled_is}
 use Rattle.relabel_found.proofs.Titles.{spots_long, spots_none, spots_other, spots_complete}
-use borrow.Author.Rules.{rules}
 use Rattle.relabel_found.proofs.spots_active.Goals as goal
 
 pub returns-then-items-gt-MAX_LOOP : goal.returns-then-items-gt-MAX_LOOP

@@ -1,6 +1,5 @@
 -- `relabel_found::upid_head`.
 use Rattle.relabel_found.proofs.Walks.{head_is}
-use borrow.Author.Rules.{rules}
 use Rattle.relabel_found.proofs.upid_head.Goals as goal
 
 pub returns : goal.returns

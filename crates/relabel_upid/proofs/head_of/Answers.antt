@@ -1,9 +1,7 @@
 -- `relabel_upid::head_of`: the loop's invariant says which parts are still to come from the place on.
-use Prim.Native.Nat.{ℕ, ◌+◌, ◌-◌, ◌≤◌, ◌<◌}
+use Prim.Native.Nat.{◌<◌}
 use native.Mathlib.Omega.{arith}
-use lib.ListN.{length, drop}
-use Rattle.relabel_upid.specs.Private.{heads}
-use Rattle.relabel_upid.proofs.Heads.{Rest, begun, found, none_left, complete, onward}
+use Rattle.relabel_upid.proofs.Heads.{begun, found, none_left, complete, onward}
 use Rattle.relabel_upid.proofs.head_of.Goals as goal
 
 pub loop-at-init : goal.loop-at-init

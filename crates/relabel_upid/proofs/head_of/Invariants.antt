@@ -1,9 +1,8 @@
 -- `relabel_upid::head_of`: the loop's invariant says which parts are still to come from the place on.
-use Prim.Native.Nat.{ℕ, ◌+◌, ◌-◌, ◌≤◌, ◌<◌}
-use native.Mathlib.Omega.{arith}
+use Prim.Native.Nat.{◌-◌, ◌≤◌}
 use lib.ListN.{length, drop}
 use Rattle.relabel_upid.specs.Private.{heads}
-use Rattle.relabel_upid.proofs.Heads.{Rest, begun, found, none_left, complete, onward}
+use Rattle.relabel_upid.proofs.Heads.{Rest}
 use Rattle.relabel_upid.proofs.head_of.Given as goal
 
 abbrev pub invariant-loop-at : goal.invariant-loop-at

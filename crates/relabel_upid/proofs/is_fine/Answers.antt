@@ -1,5 +1,4 @@
 -- `relabel_upid::is_fine`, by its two cases.
-use borrow.Author.Rules.{rules}
 use Rattle.relabel_upid.specs.Relabel.{taken}
 use Rattle.relabel_upid.proofs.is_fine.Goals as goal
 

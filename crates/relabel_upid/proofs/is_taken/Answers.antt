@@ -1,8 +1,7 @@
 -- `relabel_upid::is_taken` meets its contract: an empty part is read as the only part of a MID, any other by itself.
-use mathlib.Core.Path.{◌≡◌, sym, ap, ◌∙◌}
+use mathlib.Core.Path.{sym, ap, ◌∙◌}
 use mathlib.Core.List.{List}
 use Prim.Native.Nat.{ℕ}
-use borrow.Author.Rules.{rules}
 use Rattle.upid.proofs.Walks.{empty}
 use Rattle.upid.specs.Upid.{read_of}
 use Rattle.relabel_upid.specs.Relabel.{taken}

@@ -1,14 +1,12 @@
 -- `relabel_upid::mend` meets its contract. The loop's invariant: the parts that are still to come from the place on, and what is left of them, mended in the
 -- target as it is now, gives what all of them give in the target as it was.
-use Prim.Native.Nat.{ℕ, ◌+◌, ◌-◌, ◌≤◌, ◌<◌}
+use Prim.Native.Nat.{ℕ, ◌-◌}
 use mathlib.Core.Path.{◌≡◌, refl, sym, ap, ◌∙◌}
-use mathlib.Core.Logic.{⊎_elim}
 use native.Mathlib.Omega.{arith}
 use lib.ListN.{length, take, drop, length-set}
-use borrow.Author.Rules.{rules}
 use Rattle.relabel_upid.specs.Private.{heads, nth}
 use Rattle.relabel_upid.specs.Relabel.{mended}
-use Rattle.relabel_upid.proofs.Heads.{Rest, begun}
+use Rattle.relabel_upid.proofs.Heads.{begun}
 use Rattle.relabel_upid.proofs.Stores.{head_complete, next_ahead, counts, mends_it, keeps_it}
 use Rattle.relabel_upid.proofs.Turns.{mended_end}
 use Rattle.relabel_upid.proofs.mend.Goals as goal
@@ -80,18 +78,18 @@ loop-ahead-preserved c =
     let inv = c.loop-ahead.invariant in
     let next = next_ahead a.upid.now a.i a.end a.old a.n c.loop-ahead.ahead c.loop-ahead.at a.target.now c.requires c.loop-ahead.invariant.1 c.loop-ahead-test.true inv.2 _ c.next_head-at.ensures in
     elim c.if-end-at.branch [
-      then-end-at w ↦ (
-      ap length w.target-is ∙ simp length-set inv.0,
-      omega (arith, inv.1),
-      next,
-      mends_it a.upid.now a.i a.end a.old a.n c.loop-ahead.ahead c.loop-ahead.at a.target.now c.requires c.loop-ahead.invariant.1 c.loop-ahead-test.true inv.2 _ c.size-l.ensures.0 c.loop-ahead.target c.if-end-at.target _ w.if-end-at.true w.mended_length.ensures w.target-is ∙ inv.3,
-    )
-    | else-end-at w ↦ (
-      ap length w.target-is ∙ inv.0,
-      omega (arith, inv.1),
-      next,
-      keeps_it a.upid.now a.i a.end a.old a.n c.loop-ahead.ahead c.loop-ahead.at a.target.now c.requires c.loop-ahead.invariant.1 c.loop-ahead-test.true inv.2 _ c.size-l.ensures.0 c.loop-ahead.target c.if-end-at.target w.if-end-at.false w.target-is ∙ inv.3,
-    )
+      | then-end-at w ↦ (
+        ap length w.target-is ∙ simp length-set inv.0,
+        omega (arith, inv.1),
+        next,
+        mends_it a.upid.now a.i a.end a.old a.n c.loop-ahead.ahead c.loop-ahead.at a.target.now c.requires c.loop-ahead.invariant.1 c.loop-ahead-test.true inv.2 _ c.size-l.ensures.0 c.loop-ahead.target c.if-end-at.target _ w.if-end-at.true w.mended_length.ensures w.target-is ∙ inv.3,
+      )
+      | else-end-at w ↦ (
+        ap length w.target-is ∙ inv.0,
+        omega (arith, inv.1),
+        next,
+        keeps_it a.upid.now a.i a.end a.old a.n c.loop-ahead.ahead c.loop-ahead.at a.target.now c.requires c.loop-ahead.invariant.1 c.loop-ahead-test.true inv.2 _ c.size-l.ensures.0 c.loop-ahead.target c.if-end-at.target w.if-end-at.false w.target-is ∙ inv.3,
+      )
     ]
 
 pub shape_of-target : goal.shape_of-target

@@ -1,16 +1,11 @@
 -- `relabel_upid::mend` meets its contract. The loop's invariant: the parts that are still to come from the place on, and what is left of them, mended in the
 -- target as it is now, gives what all of them give in the target as it was.
-use Prim.Native.Nat.{ℕ, ◌+◌, ◌-◌, ◌≤◌, ◌<◌}
-use mathlib.Core.Path.{◌≡◌, refl, sym, ap, ◌∙◌}
-use mathlib.Core.Logic.{⊎_elim}
-use native.Mathlib.Omega.{arith}
-use lib.ListN.{length, take, drop, length-set}
-use borrow.Author.Rules.{rules}
+use Prim.Native.Nat.{◌-◌, ◌≤◌}
+use mathlib.Core.Path.{◌≡◌}
+use lib.ListN.{length, take, drop}
 use Rattle.relabel_upid.specs.Private.{heads, nth}
 use Rattle.relabel_upid.specs.Relabel.{mended}
-use Rattle.relabel_upid.proofs.Heads.{Rest, begun}
-use Rattle.relabel_upid.proofs.Stores.{head_complete, next_ahead, counts, mends_it, keeps_it}
-use Rattle.relabel_upid.proofs.Turns.{mended_end}
+use Rattle.relabel_upid.proofs.Heads.{Rest}
 use Rattle.relabel_upid.proofs.mend.Given as goal
 
 abbrev pub invariant-loop-ahead : goal.invariant-loop-ahead

@@ -1,5 +1,4 @@
 -- `relabel_upid::next_head`: by the type in the head.
-use borrow.Author.Rules.{rules}
 use Rattle.relabel_upid.proofs.Heads.{next_mid, next_plain}
 use Rattle.relabel_upid.proofs.next_head.Goals as goal
 

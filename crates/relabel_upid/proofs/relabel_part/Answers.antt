@@ -5,7 +5,6 @@ use Prim.Native.Nat.{◌+◌, ◌-◌, ◌≤◌}
 use lib.ListN.{length}
 use native.Mathlib.Omega.{arith}
 use borrow.Author.Tests.{not-true, not-false}
-use borrow.Author.Rules.{rules}
 use Rattle.bit_stores.proofs.Writes.{refused_answer, short_answer, wrote_answer}
 use Rattle.bit_stores.specs.declared.Written.{Written}
 use Rattle.upid.specs.Upid.{check_of}

@@ -1,7 +1,6 @@
 -- `relabel_upid::relabel_top`, answer by answer.
-use borrow.Author.Rules.{rules}
 use borrow.Author.Tests.{not-true, not-false}
-use mathlib.Core.Path.{◌≡◌, refl, sym, ap, ◌∙◌}
+use mathlib.Core.Path.{sym, ap, ◌∙◌}
 use Rattle.bit_stores.proofs.Writes.{refused_answer, short_answer, wrote_answer}
 use Rattle.relabel_upid.specs.Relabel.{taken, up_to}
 use Rattle.relabel_upid.proofs.Turns.{top_none, top_refused, top_long, top_empty, top_unfit, top_made_lem, up_to_over, up_to_fits}

@@ -1,10 +1,5 @@
 -- `relabel_upid::relabel_upid` meets its contract.
 use Rattle.relabel_upid.proofs.Stores.{relabel_zero, relabel_more}
-use borrow.Author.Rules.{rules}
-use Rattle.relabel_upid.proofs.relabel_upid.Reads as reads
-use Rattle.relabel_upid.proofs.relabel_upid.Lts as lts
-use Rattle.relabel_upid.proofs.relabel_part.Reads as relabel_part_reads
-use Rattle.relabel_upid.proofs.relabel_top.Reads as relabel_top_reads
 use Rattle.relabel_upid.proofs.relabel_upid.Goals as goal
 
 pub returns-then-part-eq0 : goal.returns-then-part-eq0

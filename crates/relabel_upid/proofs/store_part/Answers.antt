@@ -1,11 +1,10 @@
 -- `relabel_upid::store_part` meets its contract: six stores, one behind the other.
-use mathlib.Core.Path.{◌≡◌, sym, ap, ◌∙◌}
-use Prim.Native.Nat.{◌+◌, ◌-◌}
+use mathlib.Core.Path.{ap, ◌∙◌}
+use Prim.Native.Nat.{◌+◌}
 use native.Mathlib.Omega.{arith}
 use lib.ListN.{length}
 use Rattle.table.proofs.Stores.{length_stored}
 use Rattle.relabel_upid.proofs.Stores.{mendable, prior_slice, back_slice, store_all}
-use borrow.Author.Rules.{rules}
 use Rattle.relabel_upid.proofs.store_part.Goals as goal
 
 pub mend-requires : goal.mend-requires

@@ -4,7 +4,6 @@ use mathlib.Core.Path.{◌≡◌}
 use native.Mathlib.Omega.{arith}
 use lib.Seq.{take_all}
 use lib.ListN.{length, drop, length-drop, drop_of_length-le}
-use borrow.Author.Rules.{rules}
 use Rattle.scte35.proofs.rest.Goals as goal
 
 pub returns-then-end-at : goal.returns-then-end-at

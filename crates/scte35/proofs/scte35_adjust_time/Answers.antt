@@ -1,5 +1,4 @@
 -- `scte35::scte35_adjust_time` meets its contract: it is what it calls.
-use borrow.Author.Rules.{rules}
 use Rattle.scte35.proofs.scte35_adjust_time.Goals as goal
 
 pub returns : goal.returns

@@ -1,6 +1,5 @@
 -- `scte35::scte35_crc` meets its contract.
-use mathlib.Core.Path.{◌≡◌, ap, sym, ◌∙◌}
-use borrow.Author.Rules.{rules}
+use mathlib.Core.Path.{ap, ◌∙◌}
 use Rattle.crc.specs.Crc.{crc_of}
 use Rattle.scte35.proofs.scte35_crc.Goals as goal
 

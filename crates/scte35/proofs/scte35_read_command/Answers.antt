@@ -1,6 +1,5 @@
 -- `scte35::scte35_read_command` meets its contract.
-use mathlib.Core.Path.{◌≡◌, ap, sym, ◌∙◌}
-use borrow.Author.Rules.{rules}
+use mathlib.Core.Path.{ap, ◌∙◌}
 use Rattle.command.specs.Command.{command_of}
 use Rattle.c_section.specs.FlatCommand.{flat_command_read}
 use Rattle.scte35.proofs.scte35_read_command.Goals as goal

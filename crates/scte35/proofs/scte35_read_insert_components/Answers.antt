@@ -1,6 +1,5 @@
 -- `scte35::scte35_read_insert_components` meets its contract.
-use mathlib.Core.Path.{◌≡◌, ap, ◌∙◌}
-use borrow.Author.Rules.{rules}
+use mathlib.Core.Path.{ap, ◌∙◌}
 use Rattle.command.specs.Command.{listed_of}
 use Rattle.command.specs.declared.components.ListedCommand.{ListedCommand}
 use Rattle.c_section.specs.FlatCommand.{flat_insert_components}

@@ -1,6 +1,5 @@
 -- `scte35::scte35_read_item` meets its contract.
-use mathlib.Core.Path.{◌≡◌, ap, sym, ◌∙◌}
-use borrow.Author.Rules.{rules}
+use mathlib.Core.Path.{ap, ◌∙◌}
 use Rattle.c_items.specs.FlatItem.{flat_step}
 use Rattle.scte35.proofs.scte35_read_item.Goals as goal
 

@@ -1,13 +1,12 @@
 -- `scte35::scte35_read_section`: what is built in each arm is the flat form of the section's reading.
 use Prim.Native.Nat.{ℕ}
 use mathlib.Core.List.{List}
-use mathlib.Core.Path.{◌≡◌, ap, sym, ◌∙◌}
+use mathlib.Core.Path.{ap, sym, ◌∙◌}
 use native.Mathlib.Omega.{arith}
-use borrow.Author.Rules.{rules}
 use Rattle.c_section.specs.FlatSection.{flat_section_read}
 use Rattle.c_section.proofs.FlatSections.{of_kind, flat_is}
 use Rattle.section.specs.Section.{section_of}
-use Rattle.section.proofs.Framing.{Framed, framed, is_refused}
+use Rattle.section.proofs.Framing.{framed, is_refused}
 use Rattle.scte35.proofs.scte35_read_section.Goals as goal
 
 pub returns-in-Refused : goal.returns-in-Refused

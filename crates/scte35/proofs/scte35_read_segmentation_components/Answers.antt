@@ -1,6 +1,5 @@
 -- `scte35::scte35_read_segmentation_components` meets its contract.
-use mathlib.Core.Path.{◌≡◌, ap, sym, ◌∙◌}
-use borrow.Author.Rules.{rules}
+use mathlib.Core.Path.{ap, ◌∙◌}
 use Rattle.c_items.specs.FlatItem.{flat_beside}
 use Rattle.scte35.proofs.scte35_read_segmentation_components.Goals as goal
 

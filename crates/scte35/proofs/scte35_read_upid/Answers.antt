@@ -1,6 +1,5 @@
 -- `scte35::scte35_read_upid` meets its contract.
-use mathlib.Core.Path.{◌≡◌, ap, sym, ◌∙◌}
-use borrow.Author.Rules.{rules}
+use mathlib.Core.Path.{ap, ◌∙◌}
 use Rattle.upid.specs.Upid.{upid_of}
 use Rattle.c_items.specs.FlatUpid.{flat_upid}
 use Rattle.scte35.proofs.scte35_read_upid.Goals as goal

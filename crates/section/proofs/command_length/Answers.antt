@@ -1,7 +1,6 @@
 -- `section::command_length`: four bits and a byte.
 use native.Mathlib.Omega.{arith}
 use Rattle.section.proofs.Framing.{size_of}
-use borrow.Author.Rules.{rules}
 use Rattle.section.proofs.command_length.Goals as goal
 
 pub returns : goal.returns

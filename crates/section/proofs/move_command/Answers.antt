@@ -3,7 +3,6 @@ use Prim.Native.Nat.{◌≤◌}
 use native.Mathlib.Omega.{arith}
 use Rattle.section.specs.Section.{moved}
 use Rattle.section.specs.Private.{view_start}
-use borrow.Author.Rules.{rules}
 use Rattle.section.proofs.move_command.Goals as goal
 
 pub overflow_add-result : goal.overflow_add-result

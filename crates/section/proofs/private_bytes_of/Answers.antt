@@ -1,5 +1,4 @@
 -- `section::private_bytes_of`, by the kind of the command.
-use borrow.Author.Rules.{rules}
 use Rattle.section.proofs.private_bytes_of.Goals as goal
 
 pub returns-in-PrivateCommand : goal.returns-in-PrivateCommand

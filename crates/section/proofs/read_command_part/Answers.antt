@@ -1,8 +1,7 @@
 -- `section::read_command_part`, by what is read of the command.
-use mathlib.Core.Path.{◌≡◌, sym, ◌∙◌}
+use mathlib.Core.Path.{sym, ◌∙◌}
 use native.Mathlib.Omega.{arith}
 use Rattle.section.proofs.Framing.{within_four, is_moved, unknown_moved, malformed_moved}
-use borrow.Author.Rules.{rules}
 use Rattle.section.proofs.read_command_part.Goals as goal
 
 pub move_command-requires : goal.move_command-requires

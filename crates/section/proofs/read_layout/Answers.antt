@@ -1,7 +1,5 @@
 -- `section::read_layout`, refusal by refusal.
-use native.Mathlib.Omega.{arith}
 use Rattle.section.proofs.Framing.{extent_is, is_encrypted, is_command_long, is_loopless, is_loop_long, is_laid}
-use borrow.Author.Rules.{rules}
 use Rattle.section.proofs.read_layout.Goals as goal
 
 pub returns-then-section-ge128 : goal.returns-then-section-ge128

@@ -1,10 +1,8 @@
 -- `section::read_parts`: the header and the command, each read as a part of the section.
-use mathlib.Core.Path.{◌≡◌, ap, sym, ◌∙◌}
+use mathlib.Core.Path.{◌≡◌, sym, ◌∙◌}
 use native.Mathlib.Omega.{arith}
-use Rattle.command.specs.declared.CommandRead.{CommandRead}
 use Rattle.section.specs.Section.{accepted}
 use Rattle.section.proofs.Framing.{command_read, no_header, section_is, size_at, header_at, command_at, within_four, is_moved, unknown_moved, malformed_moved}
-use borrow.Author.Rules.{rules}
 use Rattle.section.proofs.read_parts.Goals as goal
 
 pub returns-in-NoHeader : goal.returns-in-NoHeader

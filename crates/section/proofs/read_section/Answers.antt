@@ -1,9 +1,8 @@
 -- `section::read_section`: a frame that is refused refuses the section.
-use mathlib.Core.Path.{◌≡◌, ap, sym, ◌∙◌}
+use mathlib.Core.Path.{ap, sym, ◌∙◌}
 use native.Mathlib.Omega.{arith}
 use Rattle.section.specs.Section.{accepted}
-use Rattle.section.proofs.Framing.{Framed, framed, is_accepted, is_refused}
-use borrow.Author.Rules.{rules}
+use Rattle.section.proofs.Framing.{framed, is_accepted, is_refused}
 use Rattle.section.proofs.read_section.Goals as goal
 
 pub read_parts-requires : goal.read_parts-requires

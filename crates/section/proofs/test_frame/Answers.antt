@@ -1,7 +1,6 @@
 -- `section::test_frame`, refusal by refusal.
-use mathlib.Core.Path.{◌≡◌, refl, ap, sym, ◌∙◌}
+use mathlib.Core.Path.{sym, ◌∙◌}
 use Rattle.section.proofs.Framing.{is_short, is_long, is_other, is_wrong, is_headless, is_framed}
-use borrow.Author.Rules.{rules}
 use Rattle.section.proofs.test_frame.Goals as goal
 
 pub returns-then-section-lt3 : goal.returns-then-section-lt3

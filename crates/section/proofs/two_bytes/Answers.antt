@@ -1,7 +1,6 @@
 -- `section::two_bytes`: the high byte, then the low.
 use native.Mathlib.Omega.{arith}
 use Rattle.section.proofs.Framing.{number_of}
-use borrow.Author.Rules.{rules}
 use Rattle.section.proofs.two_bytes.Goals as goal
 
 pub returns : goal.returns

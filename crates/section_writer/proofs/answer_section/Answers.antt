@@ -1,7 +1,6 @@
 -- `section_writer::answer_section`, test by test.
 use native.Mathlib.Omega.{arith}
 use Rattle.section_writer.proofs.Answers.{refused_for, short_for, wrote_for, short_enough}
-use borrow.Author.Rules.{rules}
 use Rattle.section_writer.proofs.answer_section.Goals as goal
 
 pub returns-then-refusal-gt0 : goal.returns-then-refusal-gt0

@@ -11,8 +11,6 @@ use Rattle.section.specs.declared.FrameRead.{FrameRead}
 use Rattle.section.specs.declared.SectionRead.{SectionRead}
 use Rattle.section.proofs.Framing as frame
 use Rattle.section_writer.proofs.Forms.{read_as, is_read, is_unknown, is_malformed, loop_at, other_bits, other_length, spare_bytes, no_spare_byte}
-use Rattle.section.proofs.Parts.{Parts, parts_of_lem}
-use borrow.Author.Rules.{rules}
 use Rattle.section_writer.proofs.is_canonical_around.Goals as goal
 
 pub overflow_add-end : goal.overflow_add-end

@@ -1,8 +1,7 @@
 -- `section_writer::is_canonical_frame`: a section that has no frame is not accepted.
-use mathlib.Core.Path.{◌≡◌, sym, ◌∙◌}
+use mathlib.Core.Path.{sym, ◌∙◌}
 use Rattle.section.proofs.Framing.{is_refused}
 use Rattle.section_writer.proofs.Forms.{not_accepted}
-use borrow.Author.Rules.{rules}
 use Rattle.section_writer.proofs.is_canonical_frame.Goals as goal
 
 pub is_canonical_around-requires : goal.is_canonical_around-requires

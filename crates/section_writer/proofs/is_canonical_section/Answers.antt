@@ -8,10 +8,9 @@ use Rattle.canonical_form.specs.Command.{canonical_command}
 use Rattle.canonical_form.specs.Descriptor.{canonical_loop}
 use Rattle.section.specs.Section.{frame_of}
 use Rattle.section.specs.declared.FrameRead.{FrameRead}
-use Rattle.section.proofs.Framing.{Framed, framed, is_refused}
+use Rattle.section.proofs.Framing.{framed, is_refused}
 use Rattle.section_writer.proofs.Forms.{not_accepted}
 use Rattle.section_writer.proofs.Sections.{unframed, no_frame, no_command_lem, is_section}
-use borrow.Author.Rules.{rules}
 use Rattle.section_writer.proofs.is_canonical_section.Goals as goal
 
 pub returns-in-Refused : goal.returns-in-Refused

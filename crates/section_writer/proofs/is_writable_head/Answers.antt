@@ -1,6 +1,5 @@
 -- `section_writer::is_writable_head`: not encrypted, and then as the algorithm is.
 use Rattle.section_writer.proofs.Stored.{is_encrypted, is_clear}
-use borrow.Author.Rules.{rules}
 use Rattle.section_writer.proofs.is_writable_head.Goals as goal
 
 pub returns-then-header : goal.returns-then-header

@@ -1,8 +1,6 @@
 -- `section_writer::numbers_fit`, number by number: those of a byte fit their fields by their type.
 use native.Mathlib.Omega.{arith}
-use Rattle.section_writer.proofs.Heads.{Fitting}
 use Rattle.section_writer.proofs.Stored.{is_fitting, not_fitting}
-use borrow.Author.Rules.{rules}
 use Rattle.section_writer.proofs.numbers_fit.Goals as goal
 
 pub returns-then-id-gt63 : goal.returns-then-id-gt63

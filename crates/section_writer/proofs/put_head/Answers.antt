@@ -1,7 +1,6 @@
 -- `section_writer::put_head`: three numbers, one behind the other.
 use native.Mathlib.Omega.{arith}
 use Rattle.section_writer.proofs.Stored.{head_stored}
-use borrow.Author.Rules.{rules}
 use Rattle.section_writer.proofs.put_head.Goals as goal
 
 pub returns : goal.returns

@@ -1,7 +1,6 @@
 -- `section_writer::put_tail`: the loop's length, the loop, and the CRC of all that stands before it.
 use native.Mathlib.Omega.{arith}
 use Rattle.section_writer.proofs.Stored.{tail_stored}
-use borrow.Author.Rules.{rules}
 use Rattle.section_writer.proofs.put_tail.Goals as goal
 
 pub returns : goal.returns

@@ -3,7 +3,6 @@ use mathlib.Core.Path.{sym, ◌∙◌}
 use native.Mathlib.Omega.{arith}
 use borrow.Author.Tests.{not-true, not-false}
 use Rattle.section_writer.proofs.Refusals.{outside, command_wide, header_wide, command_unwritable, header_unwritable, too_long, uncanonical, no_refusal}
-use borrow.Author.Rules.{rules}
 use Rattle.section_writer.proofs.refusal_of.Goals as goal
 
 pub returns-then-r-eq31 : goal.returns-then-r-eq31

@@ -1,5 +1,4 @@
 -- `section_writer::type_of`, command by command.
-use borrow.Author.Rules.{rules}
 use Rattle.section_writer.proofs.type_of.Goals as goal
 
 pub returns-in-SpliceNull : goal.returns-in-SpliceNull

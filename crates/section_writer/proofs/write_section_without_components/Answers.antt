@@ -8,7 +8,6 @@ use Rattle.command_writer.proofs.Payloads.{refused_later}
 use Rattle.bit_stores.specs.Written.{answer_of}
 use Rattle.section_writer.specs.Writing.{type_of, section_made}
 use Rattle.section_writer.proofs.Answers.{section_answer, allowed, wrote_section, kept_length}
-use borrow.Author.Rules.{rules}
 use Rattle.section_writer.proofs.write_section_without_components.Goals as goal
 
 pub put_head-requires : goal.put_head-requires

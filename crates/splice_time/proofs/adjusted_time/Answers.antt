@@ -1,7 +1,6 @@
 -- `splice_time::adjusted_time`, by the kind of the time.
 use native.Mathlib.Omega.{arith}
 use Rattle.splice_time.proofs.Times.{adjust_wide, adjust_none, adjust_late, adjust_at}
-use borrow.Author.Rules.{rules}
 use Rattle.splice_time.proofs.adjusted_time.Goals as goal
 
 pub returns-then-pts_adjustment-gt8589934591 : goal.returns-then-pts_adjustment-gt8589934591

@@ -4,7 +4,6 @@ use mathlib.Core.Path.{refl}
 use native.Mathlib.Omega.{arith}
 use lib.ListN.{length}
 use Rattle.splice_time.proofs.Times.{none_left, aligned_unspecified, aligned_short, aligned_at}
-use borrow.Author.Rules.{rules}
 use Rattle.splice_time.proofs.read_aligned_time.Goals as goal
 
 pub returns-then-s-at : goal.returns-then-s-at

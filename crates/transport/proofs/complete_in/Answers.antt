@@ -2,7 +2,6 @@
 use mathlib.Core.Path.{ap, sym, ◌∙◌}
 use lib.Seq.{length-take-le}
 use Rattle.transport_packet.specs.Sections.{next_of}
-use borrow.Author.Rules.{rules}
 use Rattle.transport.proofs.complete_in.Goals as goal
 
 pub slice_bounds-next_at-end : goal.slice_bounds-next_at-end

@@ -2,7 +2,6 @@
 use mathlib.Core.Path.{sym, ◌∙◌}
 use Rattle.transport_packet.proofs.Heads.{payload_placed}
 use Rattle.transport.proofs.Answers.{fed_refused, fed_none, fed_repeat, fed_goes}
-use borrow.Author.Rules.{rules}
 use Rattle.transport.proofs.feed.Goals as goal
 
 pub returns-in-Refused : goal.returns-in-Refused

@@ -7,7 +7,6 @@ use Rattle.transport_packet.specs.Sections.{cut}
 use Rattle.transport.specs.Step.{before}
 use Rattle.transport.specs.Assembler.{under_for}
 use Rattle.transport.proofs.Answers.{by_long_behind, by_long, by_nothing, by_cut, goes_on_lem, on_ends, ends_before, ends_here}
-use borrow.Author.Rules.{rules}
 use Rattle.transport.proofs.go_on.Goals as goal
 
 pub returns-then-any_long : goal.returns-then-any_long

@@ -1,7 +1,6 @@
 -- `held_for`: none after a gap.
 use mathlib.Core.Path.{sym, ◌∙◌}
 use native.Mathlib.Omega.{arith}
-use borrow.Author.Rules.{rules}
 use Rattle.transport.proofs.held_for.Goals as goal
 
 pub returns-then-is_next : goal.returns-then-is_next

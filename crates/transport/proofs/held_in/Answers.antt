@@ -2,7 +2,6 @@
 use mathlib.Core.Path.{sym, ◌∙◌}
 use native.Mathlib.Omega.{arith}
 use lib.Seq.{take-length, take_all}
-use borrow.Author.Rules.{rules}
 use Rattle.transport.proofs.held_in.Goals as goal
 
 pub returns : goal.returns

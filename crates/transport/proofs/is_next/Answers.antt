@@ -6,7 +6,6 @@ use native.Mathlib.Omega.{arith}
 use lib.Dec.{eqb}
 use borrow.Author.Tests.{le-leb, lt-leb}
 use Rattle.transport.specs.Step.{follows}
-use borrow.Author.Rules.{rules}
 use Rattle.transport.proofs.is_next.Goals as goal
 
 first_follows : (last counter : ℕ) → 16 ≤ last → follows last counter ≡ true

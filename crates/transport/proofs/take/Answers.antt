@@ -1,9 +1,8 @@
 -- `take`: the section under way where it is whole, and else what `take_from` finds.
-use mathlib.Core.Path.{sym, ◌∙◌}
+use mathlib.Core.Path.{◌∙◌}
 use native.Mathlib.Omega.{arith}
 use borrow.Author.Tests.{eq-eqb, ne_eqb}
 use Rattle.transport.proofs.Answers.{taken_held, taken_next}
-use borrow.Author.Rules.{rules}
 use Rattle.transport.proofs.take.Goals as goal
 
 pub returns-then-size-gt0 : goal.returns-then-size-gt0

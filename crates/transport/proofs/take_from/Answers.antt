@@ -4,7 +4,6 @@ use native.Mathlib.Omega.{arith}
 use lib.ListN.{drop}
 use Rattle.transport_packet.proofs.Cuts.{complete_ends, part_begins}
 use Rattle.transport.proofs.Answers.{at_part, at_complete, from_nothing, from_long}
-use borrow.Author.Rules.{rules}
 use Rattle.transport.proofs.take_from.Goals as goal
 
 pub returns-in-Nothing : goal.returns-in-Nothing

@@ -1,5 +1,4 @@
 -- `upid::check_upid` meets its contract: each answer takes the definition's tests in turn.
-use borrow.Author.Rules.{rules}
 use borrow.Author.Tests.{lt-ltb, le-ltb, eq-eqb, ne_eqb}
 use Rattle.upid.specs.Upid.{check_of}
 use Rattle.upid.proofs.check_upid.Goals as goal

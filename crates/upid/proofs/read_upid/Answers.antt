@@ -2,7 +2,6 @@
 use Rattle.upid.specs.Private.{Accepted}
 use Rattle.upid.specs.Upid.{check_of}
 use Rattle.upid.proofs.Walks.{check_short, check_mid, answer_refused, answer_fine}
-use borrow.Author.Rules.{rules}
 use Rattle.upid.proofs.read_upid.Goals as goal
 
 pub list_parts-requires : goal.list_parts-requires

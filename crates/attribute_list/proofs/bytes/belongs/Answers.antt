@@ -1,5 +1,4 @@
 -- `attribute_list::bytes::belongs` meets its contract, class by class.
-use borrow.Author.Rules.{rules}
 use Rattle.attribute_list.proofs.bytes.belongs.Goals as goal
 
 pub returns-in-Name : goal.returns-in-Name

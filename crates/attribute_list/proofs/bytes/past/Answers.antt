@@ -1,13 +1,8 @@
 -- `attribute_list::bytes::past`: the run from `i` on ends where the whole run ends.
-use Prim.Native.Nat.{◌+◌, ◌-◌}
-use mathlib.Core.Path.{◌≡◌, refl, sym, ◌∙◌}
+use mathlib.Core.Path.{refl, sym, ◌∙◌}
 use native.Mathlib.Omega.{arith}
-use lib.ListN.{length, drop}
 use borrow.Author.Tests.{not-true, not-false}
-use Rattle.attribute_list.specs.Cutting.{span}
-use Rattle.attribute_list.specs.Cutting.{test_of}
 use Rattle.attribute_list.proofs.Runs.{span_stop, span_more, span_end}
-use borrow.Author.Rules.{rules}
 use Rattle.attribute_list.proofs.bytes.past.Goals as goal
 
 pub loop-i-init : goal.loop-i-init

@@ -1,9 +1,6 @@
 -- `attribute_list::bytes::same_bytes`: what is left is the same exactly where all is.
-use Prim.Native.Nat.{◌-◌}
-use mathlib.Core.Path.{◌≡◌, refl, sym, ◌∙◌}
+use mathlib.Core.Path.{refl, sym, ◌∙◌}
 use native.Mathlib.Omega.{arith}
-use lib.ListN.{length, drop}
-use Rattle.attribute_list.specs.Cutting.{same}
 use Rattle.attribute_list.proofs.Runs.{same_length, same_more, same_not, same_end}
 use Rattle.attribute_list.proofs.bytes.same_bytes.Goals as goal
 

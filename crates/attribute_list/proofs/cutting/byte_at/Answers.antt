@@ -1,7 +1,6 @@
 -- `attribute_list::cutting::byte_at` meets its contract.
 use mathlib.Core.Path.{sym}
 use lib.ListN.{get_or-eq_default}
-use borrow.Author.Rules.{rules}
 use Rattle.attribute_list.proofs.cutting.byte_at.Goals as goal
 
 pub returns-else-at-line : goal.returns-else-at-line

@@ -1,7 +1,6 @@
 -- `attribute_list::cutting::cut_at`, test by test.
 use mathlib.Core.Path.{sym, ◌∙◌}
 use Rattle.attribute_list.proofs.Cuts.{cut_nameless, cut_short, cut_other, cut_quoted, cut_plain}
-use borrow.Author.Rules.{rules}
 use Rattle.attribute_list.proofs.cutting.cut_at.Goals as goal
 
 pub returns-then-equals-at : goal.returns-then-equals-at

@@ -1,7 +1,6 @@
 -- `attribute_list::cutting::is_closed` meets its contract.
 use lib.ListN.{drop_of_length-le}
 use lib.Seq.{drop-cons}
-use borrow.Author.Rules.{rules}
 use Rattle.attribute_list.proofs.cutting.is_closed.Goals as goal
 
 pub returns-then-line-at : goal.returns-then-line-at

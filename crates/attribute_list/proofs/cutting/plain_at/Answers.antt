@@ -2,7 +2,6 @@
 use mathlib.Core.Path.{sym, ◌∙◌}
 use borrow.Author.Tests.{not-true, not-false}
 use Rattle.attribute_list.proofs.Cuts.{plain_none, plain_open, plain_is}
-use borrow.Author.Rules.{rules}
 use Rattle.attribute_list.proofs.cutting.plain_at.Goals as goal
 
 pub returns-then-end-at : goal.returns-then-end-at

@@ -2,7 +2,6 @@
 use mathlib.Core.Path.{sym, ◌∙◌}
 use borrow.Author.Tests.{not-true, not-false}
 use Rattle.attribute_list.proofs.Cuts.{quoted_short, quoted_other, quoted_open, quoted_is}
-use borrow.Author.Rules.{rules}
 use Rattle.attribute_list.proofs.cutting.quoted_at.Goals as goal
 
 pub returns-then-line-end : goal.returns-then-line-end

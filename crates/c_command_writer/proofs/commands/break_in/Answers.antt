@@ -1,5 +1,4 @@
 -- `c_command_writer::commands::break_in` meets its contract.
-use borrow.Author.Rules.{rules}
 use Rattle.c_command_writer.specs.CommandGiven.{break_in}
 use Rattle.c_command_writer.proofs.commands.break_in.Goals as goal
 

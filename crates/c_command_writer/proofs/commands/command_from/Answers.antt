@@ -1,5 +1,4 @@
 -- `c_command_writer::commands::command_from`, by the type.
-use borrow.Author.Rules.{rules}
 use native.Mathlib.Omega.{arith}
 use borrow.Author.Tests.{ne_eqb}
 use Rattle.c_command_writer.specs.CommandGiven.{command_from}

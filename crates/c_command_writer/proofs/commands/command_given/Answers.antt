@@ -1,5 +1,4 @@
 -- `c_command_writer::commands::command_given` meets its contract.
-use borrow.Author.Rules.{rules}
 use mathlib.Core.Path.{ap, ◌∙◌}
 use Rattle.c_command_writer.specs.CommandGiven.{command_from}
 use Rattle.c_command_writer.proofs.commands.command_given.Goals as goal

@@ -1,5 +1,4 @@
 -- `c_command_writer::commands::command_in` meets its contract.
-use borrow.Author.Rules.{rules}
 use Rattle.c_command_writer.specs.CommandGiven.{command_in}
 use Rattle.c_command_writer.proofs.commands.command_in.Goals as goal
 

@@ -1,6 +1,5 @@
 -- `c_command_writer::commands::command_refusal`: 31, and then the words' own.
-use borrow.Author.Rules.{rules}
-use mathlib.Core.Path.{◌≡◌, sym, ◌∙◌}
+use mathlib.Core.Path.{sym, ◌∙◌}
 use borrow.Author.Tests.{not-true, not-false}
 use Rattle.c_command_writer.specs.CommandGiven.{command_refusal}
 use Rattle.c_command_writer.proofs.commands.command_refusal.Goals as goal

@@ -1,5 +1,4 @@
 -- `c_command_writer::commands::components_given` meets its contract.
-use borrow.Author.Rules.{rules}
 use Prim.Native.Nat.{ℕ}
 use mathlib.Core.Path.{ap, ◌∙◌}
 use Rattle.c_command_writer.specs.CommandGiven.{components_from}

@@ -1,7 +1,5 @@
 -- `c_command_writer::commands::insert_from` meets its contract.
-use borrow.Author.Rules.{rules}
 use mathlib.Core.Path.{◌≡◌, ◌∙◌}
-use mathlib.Core.Logic.{⊎_elim}
 use lib.Dec.{eqb}
 use borrow.Author.Tests.{eq-eqb, ne_eqb}
 use Rattle.names.specs.declared.flags.NetworkIndicator.{NetworkIndicator}

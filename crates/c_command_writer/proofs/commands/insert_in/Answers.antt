@@ -1,5 +1,4 @@
 -- `c_command_writer::commands::insert_in` meets its contract.
-use borrow.Author.Rules.{rules}
 use Rattle.c_command_writer.specs.CommandGiven.{insert_in}
 use Rattle.c_command_writer.proofs.commands.insert_in.Goals as goal
 

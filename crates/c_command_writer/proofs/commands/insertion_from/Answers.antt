@@ -1,7 +1,5 @@
 -- `c_command_writer::commands::insertion_from` meets its contract.
-use borrow.Author.Rules.{rules}
 use mathlib.Core.Path.{◌≡◌, ap, ◌∙◌}
-use mathlib.Core.Logic.{⊎_elim}
 use lib.Dec.{eqb}
 use borrow.Author.Tests.{eq-eqb, ne_eqb}
 use Rattle.command.specs.declared.insert.SpliceDetail.{SpliceDetail}

@@ -1,6 +1,5 @@
 -- `c_command_writer::commands::is_command_seen`: the view that the last two words are.
-use borrow.Author.Rules.{rules}
-use mathlib.Core.Path.{◌≡◌, ◌∙◌}
+use mathlib.Core.Path.{◌∙◌}
 use Rattle.c_command_writer.specs.CommandWords.{command_seen}
 use Rattle.c_command_writer.proofs.commands.is_command_seen.Goals as goal
 

@@ -1,5 +1,4 @@
 -- `c_command_writer::commands::is_flat_command`, four words at a time.
-use borrow.Author.Rules.{rules}
 use Prim.Native.Nat.{ℕ}
 use mathlib.Core.Bool.{Bool, true, ◌&&◌}
 use mathlib.Core.List.{List, [], ◌∷◌}

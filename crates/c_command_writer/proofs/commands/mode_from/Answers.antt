@@ -1,5 +1,4 @@
 -- `c_command_writer::commands::mode_from`, by the flag.
-use borrow.Author.Rules.{rules}
 use borrow.Author.Tests.{eq-eqb, ne_eqb}
 use Rattle.c_command_writer.specs.CommandGiven.{mode_from}
 use Rattle.c_command_writer.proofs.commands.mode_from.Goals as goal

@@ -1,5 +1,4 @@
 -- `c_command_writer::commands::mode_in` meets its contract.
-use borrow.Author.Rules.{rules}
 use Rattle.c_command_writer.specs.CommandGiven.{mode_in}
 use Rattle.c_command_writer.proofs.commands.mode_in.Goals as goal
 

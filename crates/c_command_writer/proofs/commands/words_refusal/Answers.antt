@@ -1,5 +1,4 @@
 -- `c_command_writer::commands::words_refusal`, test by test.
-use borrow.Author.Rules.{rules}
 use Prim.Native.Nat.{ℕ}
 use mathlib.Core.Bool.{true, ◌&&◌}
 use mathlib.Core.Path.{◌≡◌, ap, sym, ◌∙◌}

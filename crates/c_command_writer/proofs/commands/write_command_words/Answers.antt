@@ -1,5 +1,4 @@
 -- `c_command_writer::commands::write_command_words`: with an array of components only where there are some.
-use borrow.Author.Rules.{rules}
 use Prim.Native.Nat.{ℕ, ◌≤◌}
 use mathlib.Core.List.{List, []}
 use mathlib.Core.Path.{◌≡◌, refl, ap, sym, ◌∙◌}

@@ -1,9 +1,7 @@
 -- `c_command_writer::commands::write_listed_words`: where the words are refused, the value is tried on no byte.
-use borrow.Author.Rules.{rules}
 use Prim.Native.Nat.{ℕ}
 use mathlib.Core.List.{List, ◌++◌}
 use mathlib.Core.Path.{◌≡◌, ap, ◌∙◌}
-use native.Mathlib.Omega.{arith}
 use Rattle.command.specs.declared.components.InsertComponent.{InsertComponent}
 use Rattle.command_measure.specs.Made.{command_made}
 use Rattle.c_command_writer.specs.Words.{no_less}

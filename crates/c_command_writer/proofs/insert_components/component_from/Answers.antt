@@ -1,5 +1,4 @@
 -- `c_command_writer::insert_components::component_from` meets its contract.
-use borrow.Author.Rules.{rules}
 use Rattle.c_command_writer.specs.CommandGiven.{component_from}
 use Rattle.c_command_writer.proofs.insert_components.component_from.Goals as goal
 

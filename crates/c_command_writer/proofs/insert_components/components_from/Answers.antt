@@ -1,10 +1,10 @@
 -- `c_command_writer::insert_components::components_from`: the first places stand in the array.
-use Prim.Native.Nat.{◌-◌, ◌*◌, ◌≤◌}
+use Prim.Native.Nat.{◌*◌, ◌≤◌}
 use mathlib.Core.List.{[]}
-use mathlib.Core.Path.{◌≡◌, ap, sym, ◌∙◌}
+use mathlib.Core.Path.{ap, sym, ◌∙◌}
 use native.Mathlib.Omega.{arith}
-use lib.ListN.{length, length-set}
-use lib.Seq.{paste, paste-zero, drop-drop}
+use lib.ListN.{length-set}
+use lib.Seq.{paste-zero, drop-drop}
 use Rattle.command.specs.Command.{array}
 use Rattle.command.specs.Insert.{blank}
 use Rattle.command.proofs.Filling.{blank_length}

@@ -1,19 +1,13 @@
 -- `c_command_writer::insert_components::components_from`: the first places stand in the array.
-use Prim.Native.Nat.{◌-◌, ◌*◌, ◌≤◌}
+use Prim.Native.Nat.{◌-◌, ◌≤◌}
 use mathlib.Core.List.{[]}
-use mathlib.Core.Path.{◌≡◌, ap, sym, ◌∙◌}
-use native.Mathlib.Omega.{arith}
-use lib.ListN.{length, length-set}
-use lib.Seq.{paste, paste-zero, drop-drop}
+use mathlib.Core.Path.{◌≡◌}
+use lib.ListN.{length}
+use lib.Seq.{paste}
 use Rattle.command.specs.Command.{array}
-use Rattle.command.specs.Insert.{blank}
-use Rattle.command.proofs.Filling.{blank_length}
-use Rattle.c_section.proofs.Arrays.{filled_turn}
 use Rattle.c_command_writer.specs.Words.{places_of}
-use Rattle.c_command_writer.specs.CommandGiven.{component_from, components_from}
+use Rattle.c_command_writer.specs.CommandGiven.{component_from}
 use Rattle.c_command_writer.specs.CommandWords.{insert_components_in}
-use Rattle.c_command_writer.proofs.Words.{places_length, places_at}
-use Rattle.c_command_writer.proofs.Components.{filled_array}
 use Rattle.c_command_writer.proofs.insert_components.components_from.Given as goal
 
 abbrev pub invariant-loop-i : goal.invariant-loop-i

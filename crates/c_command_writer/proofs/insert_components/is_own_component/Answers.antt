@@ -1,5 +1,4 @@
 -- `c_command_writer::insert_components::is_own_component`, by tag and kind.
-use borrow.Author.Rules.{rules}
 use mathlib.Core.Path.{ap, sym, ◌∙◌}
 use native.Mathlib.Omega.{arith}
 use Rattle.c_command_writer.proofs.Components.{own_wide, own_timed, own_none}

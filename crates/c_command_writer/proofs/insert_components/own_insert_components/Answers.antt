@@ -1,11 +1,10 @@
 -- `c_command_writer::insert_components::own_insert_components`: what is left says what the whole says.
-use Prim.Native.Nat.{◌-◌, ◌*◌, ◌≤◌}
+use Prim.Native.Nat.{◌-◌, ◌*◌}
 use mathlib.Core.Path.{◌≡◌, ap, sym, ◌∙◌}
 use native.Mathlib.Omega.{arith}
 use lib.ListN.{drop}
 use lib.Seq.{drop-drop}
 use borrow.Author.Tests.{not-true, not-false}
-use Rattle.c_command_writer.specs.Words.{each_place}
 use Rattle.c_command_writer.specs.CommandGiven.{own_component, own_insert_components}
 use Rattle.c_command_writer.specs.CommandWords.{insert_components_in, component_widths}
 use Rattle.c_command_writer.proofs.Words.{turn, stop, each_step, each_end}

@@ -1,5 +1,4 @@
 -- `c_descriptor_writer::beside::beside_from` meets its contract.
-use borrow.Author.Rules.{rules}
 use Rattle.c_descriptor_writer.specs.ItemGiven.{beside_from}
 use Rattle.c_descriptor_writer.proofs.beside.beside_from.Goals as goal
 

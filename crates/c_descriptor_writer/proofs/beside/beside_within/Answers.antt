@@ -1,5 +1,4 @@
 -- `c_descriptor_writer::beside::beside_within`, four words at a time.
-use borrow.Author.Rules.{rules}
 use Prim.Native.Nat.{ℕ}
 use mathlib.Core.Bool.{Bool, true, ◌&&◌}
 use mathlib.Core.List.{List, [], ◌∷◌}

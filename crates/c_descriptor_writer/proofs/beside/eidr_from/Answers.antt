@@ -1,11 +1,11 @@
 -- `c_descriptor_writer::beside::eidr_from`: the first bytes stand in the array.
-use Prim.Native.Nat.{ℕ, ◌+◌, ◌-◌, ◌*◌, ◌%◌, ◌≤◌}
+use Prim.Native.Nat.{ℕ, ◌+◌, ◌*◌, ◌%◌}
 use mathlib.Core.List.{List}
 use mathlib.Core.Path.{◌≡◌, refl, ap, sym, ◌∙◌}
 use native.Mathlib.Nat.{mul-one}
 use native.Mathlib.Omega.{arith}
-use lib.ListN.{length, get_or, drop, replicate, length-set}
-use lib.Seq.{paste, paste-zero, get_or-drop}
+use lib.ListN.{get_or, drop, replicate, length-set}
+use lib.Seq.{paste-zero, get_or-drop}
 use Rattle.c_section.proofs.Arrays.{filled_turn, filled_all}
 use Rattle.c_command_writer.specs.Words.{places_of}
 use Rattle.c_descriptor_writer.specs.ItemGiven.{byte_from, eidr_from}

@@ -1,5 +1,4 @@
 -- `c_descriptor_writer::beside::identifier_from` meets its contract.
-use borrow.Author.Rules.{rules}
 use native.Mathlib.Nat.{div-one}
 use Rattle.c_descriptor_writer.specs.ItemGiven.{identifier_from}
 use Rattle.c_descriptor_writer.proofs.beside.identifier_from.Goals as goal

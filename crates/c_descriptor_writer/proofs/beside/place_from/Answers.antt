@@ -1,5 +1,4 @@
 -- `c_descriptor_writer::beside::place_from` meets its contract.
-use borrow.Author.Rules.{rules}
 use Rattle.c_descriptor_writer.specs.ItemGiven.{place_from}
 use Rattle.c_descriptor_writer.proofs.beside.place_from.Goals as goal
 

@@ -1,9 +1,9 @@
 -- `c_descriptor_writer::beside::places_from`: the first places stand in the array.
-use Prim.Native.Nat.{◌-◌, ◌*◌, ◌≤◌}
-use mathlib.Core.Path.{◌≡◌, ap, sym, ◌∙◌}
+use Prim.Native.Nat.{◌*◌}
+use mathlib.Core.Path.{ap, sym, ◌∙◌}
 use native.Mathlib.Omega.{arith}
-use lib.ListN.{length, replicate, length-replicate, length-set}
-use lib.Seq.{paste, paste-zero, drop-drop}
+use lib.ListN.{replicate, length-replicate, length-set}
+use lib.Seq.{paste-zero, drop-drop}
 use Rattle.descriptor.specs.Segmentation.{blank_component}
 use Rattle.descriptor.specs.Full.{filled, blank_beside}
 use Rattle.descriptor.specs.declared.full.Beside.{Beside}

@@ -1,17 +1,12 @@
 -- `c_descriptor_writer::beside::places_from`: the first places stand in the array.
-use Prim.Native.Nat.{◌-◌, ◌*◌, ◌≤◌}
-use mathlib.Core.Path.{◌≡◌, ap, sym, ◌∙◌}
-use native.Mathlib.Omega.{arith}
-use lib.ListN.{length, replicate, length-replicate, length-set}
-use lib.Seq.{paste, paste-zero, drop-drop}
+use Prim.Native.Nat.{◌-◌, ◌≤◌}
+use mathlib.Core.Path.{◌≡◌}
+use lib.ListN.{length, replicate}
+use lib.Seq.{paste}
 use Rattle.descriptor.specs.Segmentation.{blank_component}
-use Rattle.descriptor.specs.Full.{filled, blank_beside}
-use Rattle.descriptor.specs.declared.full.Beside.{Beside}
-use Rattle.c_section.proofs.Arrays.{filled_turn}
 use Rattle.c_command_writer.specs.Words.{places_of}
-use Rattle.c_descriptor_writer.specs.ItemGiven.{place_from, places_from}
+use Rattle.c_descriptor_writer.specs.ItemGiven.{place_from}
 use Rattle.c_descriptor_writer.specs.ItemWords.{places_in}
-use Rattle.c_command_writer.proofs.Words.{places_length, places_at, filled_front}
 use Rattle.c_descriptor_writer.proofs.beside.places_from.Given as goal
 
 abbrev pub invariant-loop-i : goal.invariant-loop-i

@@ -1,13 +1,9 @@
 -- `c_descriptor_writer::beside::places_within`: what is left says what the whole says.
 use Prim.Native.Nat.{◌-◌, ◌*◌, ◌≤◌}
-use mathlib.Core.Path.{◌≡◌, ap, sym, ◌∙◌}
-use native.Mathlib.Omega.{arith}
+use mathlib.Core.Path.{◌≡◌}
 use lib.ListN.{drop}
-use lib.Seq.{drop-drop}
-use borrow.Author.Tests.{not-true, not-false}
 use Rattle.c_command_writer.specs.Words.{within, each_place}
 use Rattle.c_descriptor_writer.specs.ItemWords.{places_in, place_widths, places_within}
-use Rattle.c_command_writer.proofs.Words.{turn, stop, each_step, each_end}
 use Rattle.c_descriptor_writer.proofs.beside.places_within.Given as goal
 
 abbrev pub invariant-loop-i : goal.invariant-loop-i

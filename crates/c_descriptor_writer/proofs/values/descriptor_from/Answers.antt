@@ -1,5 +1,4 @@
 -- `c_descriptor_writer::values::descriptor_from`, by the kind.
-use borrow.Author.Rules.{rules}
 use native.Mathlib.Omega.{arith}
 use borrow.Author.Tests.{ne_eqb}
 use Rattle.c_descriptor_writer.specs.ItemGiven.{descriptor_from}

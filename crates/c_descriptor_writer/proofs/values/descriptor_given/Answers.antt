@@ -1,5 +1,4 @@
 -- `c_descriptor_writer::values::descriptor_given` meets its contract.
-use borrow.Author.Rules.{rules}
 use mathlib.Core.Path.{ap, ◌∙◌}
 use Rattle.c_descriptor_writer.specs.ItemGiven.{descriptor_from}
 use Rattle.c_descriptor_writer.proofs.values.descriptor_given.Goals as goal

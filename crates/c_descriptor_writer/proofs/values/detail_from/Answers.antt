@@ -1,5 +1,4 @@
 -- `c_descriptor_writer::values::detail_from` meets its contract.
-use borrow.Author.Rules.{rules}
 use Rattle.c_descriptor_writer.specs.ItemGiven.{detail_from}
 use Rattle.c_descriptor_writer.proofs.values.detail_from.Goals as goal
 

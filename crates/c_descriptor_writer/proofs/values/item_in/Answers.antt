@@ -1,5 +1,4 @@
 -- `c_descriptor_writer::values::item_in` meets its contract.
-use borrow.Author.Rules.{rules}
 use Rattle.c_descriptor_writer.specs.ItemGiven.{item_in}
 use Rattle.c_descriptor_writer.proofs.values.item_in.Goals as goal
 

@@ -1,5 +1,4 @@
 -- `c_descriptor_writer::values::restrictions_from` meets its contract.
-use borrow.Author.Rules.{rules}
 use Rattle.c_descriptor_writer.specs.ItemGiven.{restrictions_from}
 use Rattle.c_descriptor_writer.proofs.values.restrictions_from.Goals as goal
 

@@ -1,5 +1,4 @@
 -- `c_descriptor_writer::values::restrictions_in` meets its contract.
-use borrow.Author.Rules.{rules}
 use Rattle.c_descriptor_writer.specs.ItemGiven.{restrictions_in}
 use Rattle.c_descriptor_writer.proofs.values.restrictions_in.Goals as goal
 

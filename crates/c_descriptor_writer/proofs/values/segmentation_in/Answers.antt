@@ -1,5 +1,4 @@
 -- `c_descriptor_writer::values::segmentation_in` meets its contract.
-use borrow.Author.Rules.{rules}
 use Rattle.c_descriptor_writer.specs.ItemGiven.{segmentation_in}
 use Rattle.c_descriptor_writer.proofs.values.segmentation_in.Goals as goal
 

@@ -1,5 +1,4 @@
 -- `c_descriptor_writer::values::sub_segments_from`, by the flag.
-use borrow.Author.Rules.{rules}
 use borrow.Author.Tests.{eq-eqb, ne_eqb}
 use Rattle.c_descriptor_writer.proofs.values.sub_segments_from.Goals as goal
 

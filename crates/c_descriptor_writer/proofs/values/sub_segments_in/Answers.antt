@@ -1,5 +1,4 @@
 -- `c_descriptor_writer::values::sub_segments_in` meets its contract.
-use borrow.Author.Rules.{rules}
 use Rattle.c_descriptor_writer.specs.ItemGiven.{sub_segments_in}
 use Rattle.c_descriptor_writer.proofs.values.sub_segments_in.Goals as goal
 

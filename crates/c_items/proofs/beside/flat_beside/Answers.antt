@@ -1,5 +1,4 @@
 -- `c_items::beside::flat_beside` meets its contract.
-use borrow.Author.Rules.{rules}
 use Rattle.c_items.specs.FlatItem.{flat_beside}
 use Rattle.c_items.proofs.beside.flat_beside.Goals as goal
 

@@ -1,6 +1,5 @@
 -- `c_items::beside::flat_component` meets its contract.
 use mathlib.Core.Path.{refl}
-use borrow.Author.Rules.{rules}
 use Rattle.c_items.specs.FlatItem.{flat_component}
 use Rattle.c_items.proofs.beside.flat_component.Goals as goal
 

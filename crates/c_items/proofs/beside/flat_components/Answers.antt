@@ -1,9 +1,8 @@
 -- `c_items::beside::flat_components` meets its contract.
-use Prim.Native.Nat.{◌≤◌, ◌-◌}
 use mathlib.Core.List.{map}
-use mathlib.Core.Path.{◌≡◌, refl, ap, sym, ◌∙◌}
+use mathlib.Core.Path.{◌≡◌, refl, ◌∙◌}
 use native.Mathlib.Omega.{arith}
-use lib.Seq.{paste, paste-zero}
+use lib.Seq.{paste-zero}
 use lib.ListN.{length}
 use borrow.Author.Rules.{rules}
 use Rattle.c_items.specs.FlatItem.{flat_component}

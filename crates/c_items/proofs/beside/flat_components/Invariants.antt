@@ -1,14 +1,11 @@
 -- `c_items::beside::flat_components` meets its contract.
 use Prim.Native.Nat.{◌≤◌, ◌-◌}
 use mathlib.Core.List.{map}
-use mathlib.Core.Path.{◌≡◌, refl, ap, sym, ◌∙◌}
-use native.Mathlib.Omega.{arith}
-use lib.Seq.{paste, paste-zero}
+use mathlib.Core.Path.{◌≡◌}
+use lib.Seq.{paste}
 use lib.ListN.{length}
-use borrow.Author.Rules.{rules}
 use Rattle.c_items.specs.FlatItem.{flat_component}
 use Rattle.c_items.specs.Private.{no_components}
-use Rattle.c_section.proofs.Arrays.{mapped_turn, mapped_all}
 use Rattle.c_items.proofs.beside.flat_components.Given as goal
 
 abbrev pub invariant-loop-i : goal.invariant-loop-i

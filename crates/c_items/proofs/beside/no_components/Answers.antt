@@ -1,5 +1,5 @@
 -- `c_items::beside::no_components` meets its contract.
-use mathlib.Core.Path.{◌≡◌, refl, ap, sym, ◌∙◌}
+use mathlib.Core.Path.{refl}
 use Rattle.c_items.specs.Private.{no_components}
 use Rattle.c_items.proofs.beside.no_components.Goals as goal
 

@@ -1,6 +1,5 @@
 -- `c_items::descriptors::active_item` meets its contract.
 use Rattle.c_items.specs.FlatItem.{blank_item, segmentation_item}
-use borrow.Author.Rules.{rules}
 use Rattle.c_items.proofs.descriptors.active_item.Goals as goal
 
 pub returns : goal.returns

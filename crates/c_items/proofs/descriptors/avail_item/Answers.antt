@@ -1,6 +1,5 @@
 -- `c_items::descriptors::avail_item` meets its contract.
 use Rattle.c_items.specs.FlatItem.{blank_item, flat_descriptor}
-use borrow.Author.Rules.{rules}
 use Rattle.c_items.proofs.descriptors.avail_item.Goals as goal
 
 pub returns : goal.returns

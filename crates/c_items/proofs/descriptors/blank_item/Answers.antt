@@ -1,5 +1,4 @@
 -- `c_items::descriptors::blank_item` meets its contract.
-use borrow.Author.Rules.{rules}
 use Rattle.c_items.specs.FlatItem.{blank_item}
 use Rattle.c_items.proofs.descriptors.blank_item.Goals as goal
 

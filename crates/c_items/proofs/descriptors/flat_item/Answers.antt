@@ -2,7 +2,6 @@
 use mathlib.Core.Path.{ap, sym, ◌∙◌}
 use Rattle.descriptor_loop.specs.declared.Item.TheVariants.{Is}
 use Rattle.c_items.specs.FlatItem.{segmentation_item, flat_descriptor, flat_item}
-use borrow.Author.Rules.{rules}
 use Rattle.c_items.proofs.descriptors.flat_item.Goals as goal
 
 pub returns-in-End : goal.returns-in-End

@@ -1,6 +1,5 @@
 -- `c_items::refusals::item_number` meets its contract.
-use borrow.Author.Rules.{rules}
-use Rattle.descriptor_loop.specs.Items.{number_of, values_of}
+use Rattle.descriptor_loop.specs.Items.{number_of}
 use Rattle.c_items.proofs.refusals.item_number.Goals as goal
 
 pub returns-in-InvalidDescriptorLength : goal.returns-in-InvalidDescriptorLength

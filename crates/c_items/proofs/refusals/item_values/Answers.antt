@@ -1,6 +1,5 @@
 -- `c_items::refusals::item_values` meets its contract.
-use borrow.Author.Rules.{rules}
-use Rattle.descriptor_loop.specs.Items.{number_of, values_of}
+use Rattle.descriptor_loop.specs.Items.{values_of}
 use Rattle.c_items.proofs.refusals.item_values.Goals as goal
 
 pub returns-in-InvalidDescriptorLength : goal.returns-in-InvalidDescriptorLength

@@ -1,6 +1,5 @@
 -- `c_items::refusals::number` meets its contract.
-use borrow.Author.Rules.{rules}
-use Rattle.upid.specs.Upid.{number_of, values_of}
+use Rattle.upid.specs.Upid.{number_of}
 use Rattle.c_items.proofs.refusals.number.Goals as goal
 
 pub returns-in-InputTooLong : goal.returns-in-InputTooLong

@@ -1,6 +1,5 @@
 -- `c_items::refusals::values` meets its contract.
-use borrow.Author.Rules.{rules}
-use Rattle.upid.specs.Upid.{number_of, values_of}
+use Rattle.upid.specs.Upid.{values_of}
 use Rattle.c_items.proofs.refusals.values.Goals as goal
 
 pub returns-in-InputTooLong : goal.returns-in-InputTooLong

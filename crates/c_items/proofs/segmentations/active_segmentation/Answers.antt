@@ -1,5 +1,4 @@
 -- `c_items::segmentations::active_segmentation` meets its contract.
-use borrow.Author.Rules.{rules}
 use Rattle.c_items.specs.FlatItem.{active_segmentation}
 use Rattle.c_items.proofs.segmentations.active_segmentation.Goals as goal
 

@@ -1,5 +1,4 @@
 -- `c_items::segmentations::flat_restrictions` meets its contract.
-use borrow.Author.Rules.{rules}
 use Rattle.c_items.specs.FlatItem.{flat_restrictions}
 use Rattle.c_items.proofs.segmentations.flat_restrictions.Goals as goal
 

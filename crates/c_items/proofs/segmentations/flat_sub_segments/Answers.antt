@@ -1,5 +1,4 @@
 -- `c_items::segmentations::flat_sub_segments` meets its contract.
-use borrow.Author.Rules.{rules}
 use Rattle.c_items.specs.FlatItem.{flat_sub_segments}
 use Rattle.c_items.proofs.segmentations.flat_sub_segments.Goals as goal
 

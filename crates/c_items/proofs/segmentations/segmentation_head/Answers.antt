@@ -1,5 +1,4 @@
 -- `c_items::segmentations::segmentation_head` meets its contract.
-use borrow.Author.Rules.{rules}
 use Rattle.c_items.specs.FlatItem.{segmentation_head}
 use Rattle.c_items.proofs.segmentations.segmentation_head.Goals as goal
 

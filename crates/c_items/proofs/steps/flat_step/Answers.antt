@@ -1,6 +1,5 @@
 -- `c_items::steps::flat_step` meets its contract.
 use native.Mathlib.Omega.{arith}
-use borrow.Author.Rules.{rules}
 use Rattle.c_items.specs.FlatItem.{flat_step}
 use Rattle.table.proofs.Reading.{bits_are}
 use Rattle.c_items.proofs.steps.flat_step.Goals as goal

@@ -1,5 +1,4 @@
 -- `c_items::steps::refusal_number` meets its contract.
-use borrow.Author.Rules.{rules}
 use Rattle.c_items.specs.FlatItem.{refusal_in}
 use Rattle.c_items.proofs.steps.refusal_number.Goals as goal
 

@@ -1,5 +1,4 @@
 -- `c_items::steps::refusal_values` meets its contract.
-use borrow.Author.Rules.{rules}
 use Rattle.c_items.specs.FlatItem.{values_in}
 use Rattle.c_items.proofs.steps.refusal_values.Goals as goal
 

@@ -1,9 +1,9 @@
 -- `c_items::upids::flat_eidr` meets its contract.
-use Prim.Native.Nat.{◌≤◌, ◌<◌, ◌-◌}
-use mathlib.Core.Path.{◌≡◌, refl, ap, sym, ◌∙◌}
+use Prim.Native.Nat.{◌≤◌, ◌<◌}
+use mathlib.Core.Path.{refl}
 use native.Mathlib.Omega.{arith}
-use lib.Seq.{paste, paste-zero}
-use lib.ListN.{length, replicate}
+use lib.Seq.{paste-zero}
+use lib.ListN.{replicate}
 use borrow.Author.Rules.{rules}
 use Rattle.c_section.proofs.Arrays.{filled_turn, filled_all}
 use Rattle.c_items.proofs.upids.flat_eidr.Goals as goal

@@ -1,11 +1,8 @@
 -- `c_items::upids::flat_eidr` meets its contract.
-use Prim.Native.Nat.{◌≤◌, ◌<◌, ◌-◌}
-use mathlib.Core.Path.{◌≡◌, refl, ap, sym, ◌∙◌}
-use native.Mathlib.Omega.{arith}
-use lib.Seq.{paste, paste-zero}
+use Prim.Native.Nat.{◌≤◌, ◌-◌}
+use mathlib.Core.Path.{◌≡◌}
+use lib.Seq.{paste}
 use lib.ListN.{length, replicate}
-use borrow.Author.Rules.{rules}
-use Rattle.c_section.proofs.Arrays.{filled_turn, filled_all}
 use Rattle.c_items.proofs.upids.flat_eidr.Given as goal
 
 abbrev pub invariant-loop-i : goal.invariant-loop-i

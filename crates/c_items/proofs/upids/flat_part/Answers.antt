@@ -1,6 +1,5 @@
 -- `c_items::upids::flat_part` meets its contract.
 use mathlib.Core.Path.{refl}
-use borrow.Author.Rules.{rules}
 use Rattle.c_items.specs.FlatUpid.{flat_part}
 use Rattle.c_items.proofs.upids.flat_part.Goals as goal
 

@@ -1,5 +1,4 @@
 -- `c_items::upids::flat_upid` meets its contract.
-use borrow.Author.Rules.{rules}
 use Rattle.c_items.specs.FlatUpid.{flat_upid, flat_upid_read}
 use Rattle.c_items.proofs.upids.flat_upid.Goals as goal
 

@@ -1,5 +1,4 @@
 -- `c_section::commands::active_insert` meets its contract.
-use borrow.Author.Rules.{rules}
 use Rattle.c_section.specs.FlatCommand.{active_insert}
 use Rattle.c_section.proofs.commands.active_insert.Goals as goal
 

@@ -1,5 +1,4 @@
 -- `c_section::commands::flat_break` meets its contract.
-use borrow.Author.Rules.{rules}
 use Rattle.c_section.specs.FlatCommand.{flat_break}
 use Rattle.c_section.proofs.commands.flat_break.Goals as goal
 

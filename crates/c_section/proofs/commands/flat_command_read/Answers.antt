@@ -1,6 +1,5 @@
 -- `c_section::commands::flat_command_read` meets its contract.
-use mathlib.Core.Path.{◌≡◌, ap, sym, ◌∙◌}
-use borrow.Author.Rules.{rules}
+use mathlib.Core.Path.{ap, sym, ◌∙◌}
 use Rattle.c_section.specs.FlatCommand.{flat_command_read}
 use Rattle.c_section.proofs.commands.flat_command_read.Goals as goal
 

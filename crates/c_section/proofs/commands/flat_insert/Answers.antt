@@ -1,5 +1,4 @@
 -- `c_section::commands::flat_insert` meets its contract.
-use borrow.Author.Rules.{rules}
 use Rattle.c_section.specs.FlatCommand.{flat_insertion}
 use Rattle.c_section.proofs.commands.flat_insert.Goals as goal
 

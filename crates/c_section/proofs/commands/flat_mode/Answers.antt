@@ -1,5 +1,4 @@
 -- `c_section::commands::flat_mode` meets its contract.
-use borrow.Author.Rules.{rules}
 use Rattle.c_section.specs.FlatCommand.{flat_mode}
 use Rattle.c_section.proofs.commands.flat_mode.Goals as goal
 

@@ -1,5 +1,4 @@
 -- `c_section::commands::insert_head` meets its contract.
-use borrow.Author.Rules.{rules}
 use Rattle.c_section.specs.FlatCommand.{flat_mode, active_insert, insert_head}
 use Rattle.c_section.proofs.commands.insert_head.Goals as goal
 

@@ -1,5 +1,4 @@
 -- `c_section::commands::no_command` meets its contract.
-use borrow.Author.Rules.{rules}
 use Rattle.c_section.specs.FlatCommand.{no_command}
 use Rattle.c_section.proofs.commands.no_command.Goals as goal
 

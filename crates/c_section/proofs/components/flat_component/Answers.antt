@@ -1,5 +1,4 @@
 -- `c_section::components::flat_component` meets its contract.
-use borrow.Author.Rules.{rules}
 use Rattle.c_section.specs.FlatCommand.{flat_component}
 use Rattle.c_section.proofs.components.flat_component.Goals as goal
 

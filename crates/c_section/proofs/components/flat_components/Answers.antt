@@ -1,10 +1,9 @@
 -- `c_section::components::flat_components` meets its contract.
-use Prim.Native.Nat.{◌≤◌, ◌-◌}
 use mathlib.Core.Path.{◌≡◌, refl, ◌∙◌}
 use mathlib.Core.List.{map}
 use native.Mathlib.Omega.{arith}
 use lib.ListN.{length}
-use lib.Seq.{paste, paste-zero}
+use lib.Seq.{paste-zero}
 use borrow.Author.Rules.{rules}
 use Rattle.c_section.specs.FlatCommand.{flat_component, no_components}
 use Rattle.c_section.proofs.Arrays.{mapped_turn, mapped_all}

@@ -1,13 +1,10 @@
 -- `c_section::components::flat_components` meets its contract.
 use Prim.Native.Nat.{◌≤◌, ◌-◌}
-use mathlib.Core.Path.{◌≡◌, refl, ◌∙◌}
+use mathlib.Core.Path.{◌≡◌}
 use mathlib.Core.List.{map}
-use native.Mathlib.Omega.{arith}
 use lib.ListN.{length}
-use lib.Seq.{paste, paste-zero}
-use borrow.Author.Rules.{rules}
+use lib.Seq.{paste}
 use Rattle.c_section.specs.FlatCommand.{flat_component, no_components}
-use Rattle.c_section.proofs.Arrays.{mapped_turn, mapped_all}
 use Rattle.c_section.proofs.components.flat_components.Given as goal
 
 abbrev pub invariant-loop-i : goal.invariant-loop-i

@@ -1,7 +1,6 @@
 -- `c_section::components::flat_insert_components` meets its contract.
 use Prim.Native.Nat.{ℕ}
 use mathlib.Core.Path.{◌≡◌, refl}
-use borrow.Author.Rules.{rules}
 use Rattle.command.specs.Command.{count_in}
 use Rattle.command.specs.Insert.{count, insert_of}
 use Rattle.command.specs.declared.SpliceCommand.{SpliceCommand}

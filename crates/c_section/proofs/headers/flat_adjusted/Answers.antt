@@ -1,5 +1,4 @@
 -- `c_section::headers::flat_adjusted` meets its contract.
-use borrow.Author.Rules.{rules}
 use Rattle.c_section.specs.Flat.{flat_adjusted}
 use Rattle.c_section.proofs.headers.flat_adjusted.Goals as goal
 

@@ -1,5 +1,4 @@
 -- `c_section::headers::flat_header_read` meets its contract.
-use borrow.Author.Rules.{rules}
 use Rattle.c_section.specs.Flat.{flat_header_read}
 use Rattle.c_section.proofs.headers.flat_header_read.Goals as goal
 

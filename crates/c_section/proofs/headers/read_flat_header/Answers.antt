@@ -1,7 +1,6 @@
 -- `c_section::headers::read_flat_header`: each field the number of the header's, as it stands.
 use mathlib.Core.Path.{sym, ◌∙◌}
 use Rattle.c_section.proofs.Numbers.{flat_too_short, flat_numbers}
-use borrow.Author.Rules.{rules}
 use Rattle.c_section.proofs.headers.read_flat_header.Goals as goal
 
 pub returns-in-Numbers : goal.returns-in-Numbers

@@ -1,5 +1,4 @@
 -- `c_section::sections::flat_parts` meets its contract.
-use borrow.Author.Rules.{rules}
 use Rattle.c_section.proofs.sections.flat_parts.Goals as goal
 
 pub returns : goal.returns

@@ -1,5 +1,4 @@
 -- `c_section::sections::no_section`: its number, and nothing else.
-use borrow.Author.Rules.{rules}
 use Rattle.c_section.specs.FlatSection.{flat_section_read}
 use Rattle.c_section.proofs.sections.no_section.Goals as goal
 

@@ -1,5 +1,4 @@
 -- `command::CommandRead::number`: a row of `number_of` each.
-use borrow.Author.Rules.{rules}
 use Rattle.command.proofs.CommandRead.number.Goals as goal
 
 pub returns-in-Is : goal.returns-in-Is

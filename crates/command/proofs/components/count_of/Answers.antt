@@ -1,6 +1,5 @@
 -- `command::components::count_of`: by what the reading has, down to the mode.
 use Rattle.command.proofs.Filling.{counted}
-use borrow.Author.Rules.{rules}
 use Rattle.command.proofs.components.count_of.Goals as goal
 
 pub returns-in-Components : goal.returns-in-Components

@@ -1,15 +1,13 @@
 -- `command::components::fill`: what is ahead, stored behind what is there, gives what the whole gives.
-use Prim.Native.Nat.{ℕ, suc, ◌+◌, ◌*◌, ◌-◌, ◌≤◌}
+use Prim.Native.Nat.{◌*◌, ◌-◌, ◌≤◌}
 use mathlib.Core.List.{[]}
-use mathlib.Core.Path.{◌≡◌, sym, ◌∙◌}
-use native.Mathlib.Omega.{arith}
-use lib.ListN.{length, length-set}
+use mathlib.Core.Path.{◌≡◌}
+use lib.ListN.{length}
 use Rattle.table.specs.Bits.{bits_of}
 use Rattle.table.specs.Table.{list, parse}
 use Rattle.command.specs.Command.{array}
 use Rattle.command.specs.Insert.{blank, component}
 use Rattle.command.specs.Private.{filled}
-use Rattle.command.proofs.Filling.{fill_start, fill_turn, fill_lacks, fill_end, blank_length}
 use Rattle.command.proofs.components.fill.Given as goal
 
 abbrev pub invariant-loop-i : goal.invariant-loop-i

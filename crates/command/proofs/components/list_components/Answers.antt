@@ -1,6 +1,5 @@
 -- `command::components::list_components`: the components lie from byte 7 on, as many as the command says.
 use Rattle.command.proofs.Filling.{all_components}
-use borrow.Author.Rules.{rules}
 use Rattle.command.proofs.components.list_components.Goals as goal
 
 pub returns : goal.returns

@@ -1,7 +1,6 @@
 -- `command::components::read_component`: by whether its tag is there, and then its time.
 use mathlib.Core.Path.{sym, ◌∙◌}
 use Rattle.command.proofs.Walking.{no_tag, no_splice_time, a_component}
-use borrow.Author.Rules.{rules}
 use Rattle.command.proofs.components.read_component.Goals as goal
 
 pub returns-then-s-at : goal.returns-then-s-at

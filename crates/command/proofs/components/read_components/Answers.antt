@@ -1,5 +1,4 @@
 -- `command::components::read_components`: the reading, and the components beside it.
-use borrow.Author.Rules.{rules}
 use Rattle.command.specs.Command.{listed_of}
 use Rattle.command.proofs.components.read_components.Goals as goal
 

@@ -1,12 +1,10 @@
 -- `command::components::skim`: what is ahead gives what the whole gives.
-use Prim.Native.Nat.{ℕ, suc, ◌*◌, ◌-◌}
-use mathlib.Core.Path.{◌≡◌, refl, sym, ◌∙◌}
-use native.Mathlib.Omega.{arith}
+use Prim.Native.Nat.{◌*◌}
+use mathlib.Core.Path.{◌≡◌}
 use Rattle.table.specs.Bits.{bits_of}
 use Rattle.table.specs.Table.{list, parse}
 use Rattle.command.specs.Insert.{blank, component}
 use Rattle.command.specs.Private.{skimmed_of}
-use Rattle.command.proofs.Walking.{turn, turn_lacks, all_skimmed}
 use Rattle.command.proofs.components.skim.Given as goal
 
 abbrev pub invariant-loop-ahead : goal.invariant-loop-ahead

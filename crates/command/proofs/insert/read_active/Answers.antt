@@ -1,7 +1,6 @@
 -- `command::insert::read_active`: by the byte of the flags, and then its parts as their tables are read.
 use mathlib.Core.Path.{sym, ◌∙◌}
 use Rattle.command.proofs.Walking.{no_flags, no_mode, mode_within, an_active}
-use borrow.Author.Rules.{rules}
 use Rattle.command.proofs.insert.read_active.Goals as goal
 
 pub returns-then-payload-at : goal.returns-then-payload-at

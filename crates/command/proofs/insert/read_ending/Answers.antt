@@ -5,7 +5,6 @@ use native.Mathlib.Omega.{arith}
 use Rattle.table.proofs.Reading.{bits_are}
 use Rattle.splice_time.proofs.Breaks.{break_within}
 use Rattle.command.proofs.Walking.{no_ending, no_program_id, no_avails, an_ending}
-use borrow.Author.Rules.{rules}
 use Rattle.command.proofs.insert.read_ending.Goals as goal
 
 pub returns-in-Lacks : goal.returns-in-Lacks

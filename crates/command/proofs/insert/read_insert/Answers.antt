@@ -3,7 +3,6 @@ use mathlib.Core.Path.{sym, ◌∙◌}
 use native.Mathlib.Omega.{arith}
 use Rattle.table.proofs.Reading.{bits_are}
 use Rattle.command.proofs.Walking.{no_event, no_cancel, a_cancel, an_insert, no_active_lem}
-use borrow.Author.Rules.{rules}
 use Rattle.command.proofs.insert.read_insert.Goals as goal
 
 pub returns-then-payload-lt4 : goal.returns-then-payload-lt4

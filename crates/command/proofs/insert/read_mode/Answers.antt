@@ -2,7 +2,6 @@
 use mathlib.Core.Path.{sym, ◌∙◌}
 use native.Mathlib.Omega.{arith}
 use Rattle.command.proofs.Walking.{by_program_lem, no_program_time, no_count, by_components, no_components_lem}
-use borrow.Author.Rules.{rules}
 use Rattle.command.proofs.insert.read_mode.Goals as goal
 
 pub returns-in-Got : goal.returns-in-Got

@@ -1,6 +1,5 @@
 -- `command::insert::read_time_unless` meets its contract.
 use Rattle.command.proofs.Walking.{at_once, at_a_time}
-use borrow.Author.Rules.{rules}
 use Rattle.command.proofs.insert.read_time_unless.Goals as goal
 
 pub returns-then-immediate : goal.returns-then-immediate

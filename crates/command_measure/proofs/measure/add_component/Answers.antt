@@ -1,9 +1,8 @@
 -- `command_measure::measure::add_component`: each part of the survey with this component.
-use mathlib.Core.Path.{◌≡◌, refl, ap, ap₂, sym, ◌∙◌}
+use mathlib.Core.Path.{ap, ◌∙◌}
 use mathlib.Core.Bool.{Bool, ◌&&◌}
 use native.Mathlib.Omega.{arith}
 use Rattle.command_measure.proofs.Surveys.{added}
-use borrow.Author.Rules.{rules}
 use Rattle.command_measure.proofs.measure.add_component.Goals as goal
 
 pub returns : goal.returns

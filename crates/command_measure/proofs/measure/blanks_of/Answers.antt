@@ -2,7 +2,6 @@
 use Prim.Native.Nat.{◌≤◌}
 use native.Mathlib.Omega.{arith}
 use Rattle.command_measure.specs.Survey.{blanks_of}
-use borrow.Author.Rules.{rules}
 use Rattle.command_measure.proofs.measure.blanks_of.Goals as goal
 
 pub returns-in-Program : goal.returns-in-Program

@@ -1,5 +1,4 @@
 -- `command_measure::measure::break_fits`, by whether there is a duration.
-use borrow.Author.Rules.{rules}
 use Rattle.command_measure.proofs.measure.break_fits.Goals as goal
 
 pub returns-in-Absent : goal.returns-in-Absent

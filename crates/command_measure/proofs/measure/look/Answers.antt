@@ -1,11 +1,10 @@
 -- `command_measure::measure::look`: the survey of the components from i on.
-use Prim.Native.Nat.{ℕ, suc, ◌+◌, ◌*◌, ◌-◌, ◌<◌, ◌≤◌}
-use mathlib.Core.List.{List, []}
-use mathlib.Core.Path.{◌≡◌, refl, ap, ap₂, sym, ◌∙◌}
+use Prim.Native.Nat.{ℕ, suc, ◌-◌, ◌<◌}
+use mathlib.Core.List.{[]}
+use mathlib.Core.Path.{◌≡◌, ap, ap₂, sym, ◌∙◌}
 use native.Mathlib.Omega.{arith}
 use lib.ListN.{length, take, drop, get_or, length-drop, drop_of_length-le}
 use lib.Seq.{length-take-le, get_or-take}
-use Rattle.command.specs.Command.{Tags}
 use Rattle.command.specs.declared.components.InsertComponent.{InsertComponent}
 use Rattle.splice_time.specs.declared.SpliceTime.TheVariants.{Immediate}
 use Rattle.command_measure.specs.Survey.{adding, surveyed}

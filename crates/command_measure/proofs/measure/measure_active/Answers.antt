@@ -1,13 +1,12 @@
 -- `command_measure::measure::measure_active`: the tests as the definition has them.
-use mathlib.Core.Path.{◌≡◌, refl, ap, ap₂, sym, ◌∙◌}
+use mathlib.Core.Path.{ap, ap₂, ◌∙◌}
 use mir.Syntax.{w8, w16}
 use mir.Val.{Fits}
 use lib.Dec.{ltb}
 use Rattle.command_measure.proofs.Making.{measured_same}
-use native.Mathlib.Omega.{arith}
-use Prim.Native.Nat.{ℕ, ◌+◌, ◌^◌}
+use Prim.Native.Nat.{ℕ, ◌+◌}
 use mathlib.Core.Bool.{Bool, ◌&&◌}
-use Rattle.command_measure.specs.Survey.{measured, active_measured}
+use Rattle.command_measure.specs.Survey.{active_measured}
 use borrow.Author.Rules.{rules}
 use Rattle.command_measure.proofs.measure.measure_active.Goals as goal
 

@@ -1,13 +1,12 @@
 -- `command_measure::measure::measure_insert_without_components`: cancelled, or as the survey of blanks says.
-use Prim.Native.Nat.{◌^◌, ◌<◌, ◌≤◌}
+use Prim.Native.Nat.{◌^◌, ◌<◌}
 use mathlib.Core.List.{[]}
-use mathlib.Core.Path.{◌≡◌, ap, ◌∙◌}
+use mathlib.Core.Path.{ap, ◌∙◌}
 use native.Mathlib.Omega.{arith}
 use Rattle.command.specs.Command.{array}
-use Rattle.command_measure.specs.Survey.{blanks_of, active_measured}
+use Rattle.command_measure.specs.Survey.{active_measured}
 use Rattle.command_measure.specs.declared.measure.Survey.{Survey}
 use Rattle.command_measure.proofs.Making.{cancel_count, active_count, insert_cancelled, blanks_active, blanks_bytes}
-use borrow.Author.Rules.{rules}
 use Rattle.command_measure.proofs.measure.measure_insert_without_components.Goals as goal
 
 pub returns-in-Cancel : goal.returns-in-Cancel

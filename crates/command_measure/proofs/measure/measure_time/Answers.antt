@@ -1,11 +1,6 @@
 -- `command_measure::measure::measure_time`: by what is asked of a time.
-use mathlib.Core.Path.{◌≡◌, refl, ap, ap₂, sym, ◌∙◌}
-use native.Mathlib.Omega.{arith}
-use Prim.Native.Nat.{ℕ}
-use mathlib.Core.Bool.{Bool, not}
-use Rattle.command_measure.specs.Survey.{measured}
+use mathlib.Core.Path.{◌∙◌}
 use Rattle.command_measure.proofs.Making.{measured_time}
-use borrow.Author.Rules.{rules}
 use Rattle.command_measure.proofs.measure.measure_time.Goals as goal
 
 pub returns : goal.returns

@@ -1,7 +1,5 @@
 -- `command_measure::measure::mode_fits`, by the mode.
-use mathlib.Core.Path.{◌≡◌, refl, ap, ap₂, sym, ◌∙◌}
-use native.Mathlib.Omega.{arith}
-use borrow.Author.Rules.{rules}
+use mathlib.Core.Path.{◌∙◌}
 use Rattle.command_measure.proofs.measure.mode_fits.Goals as goal
 
 pub returns-in-Program : goal.returns-in-Program

@@ -1,7 +1,6 @@
 -- `command_measure::measure::mode_size`, by the mode.
-use mathlib.Core.Path.{◌≡◌, refl, ap, ap₂, sym, ◌∙◌}
+use mathlib.Core.Path.{◌∙◌}
 use native.Mathlib.Omega.{arith}
-use borrow.Author.Rules.{rules}
 use Rattle.command_measure.proofs.measure.mode_size.Goals as goal
 
 pub returns-in-Program : goal.returns-in-Program

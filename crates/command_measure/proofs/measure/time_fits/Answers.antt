@@ -1,5 +1,4 @@
 -- `command_measure::measure::time_fits`, by the kind of the time.
-use borrow.Author.Rules.{rules}
 use Rattle.command_measure.proofs.measure.time_fits.Goals as goal
 
 pub returns-in-Immediate : goal.returns-in-Immediate

@@ -8,7 +8,6 @@ use Rattle.command.specs.declared.insert.SpliceMode.{SpliceMode}
 use Rattle.bit_stores.proofs.Tables.{pens_same}
 use Rattle.command_measure.specs.Fields.{ink, places_of, active_fields}
 use Rattle.command_writer.proofs.Storing.{fits_same, none_active}
-use borrow.Author.Rules.{rules}
 use Rattle.command_writer.proofs.insert.store_active.Goals as goal
 
 pub store_by_program-requires : goal.store_by_program-requires

@@ -1,11 +1,10 @@
 -- `command_writer::insert::store_break`: a flag, reserved bits and the duration are one number.
 use Prim.Native.Nat.{◌+◌, ◌*◌, ◌%◌}
-use mathlib.Core.Path.{◌≡◌, ◌∙◌}
+use mathlib.Core.Path.{◌∙◌}
 use native.Mathlib.Omega.{arith}
 use Rattle.splice_time.specs.declared.break_duration.Break.{Break}
 use Rattle.command_measure.specs.Fields.{break_fields}
 use Rattle.command_writer.proofs.Storing.{pens_all, break_bits, return_bit}
-use borrow.Author.Rules.{rules}
 use Rattle.command_writer.proofs.insert.store_break.Goals as goal
 
 pub returns : goal.returns

@@ -1,12 +1,11 @@
 -- `command_writer::insert::store_by_none`: the flags, a count of 0, and the rest.
 use mathlib.Core.Bool.{Bool}
 use mathlib.Core.List.{List, [], ◌∷◌, ◌++◌}
-use mathlib.Core.Path.{◌≡◌, refl, ap, sym}
+use mathlib.Core.Path.{refl, ap, sym}
 use Rattle.bit_stores.proofs.Tables.{Goes, pens_same}
 use Rattle.table.specs.Writing.{Field, bits}
 use Rattle.command_measure.specs.Fields.{ink, mode_fields, end_fields, immediate_in, insert_flags, active_fields}
 use Rattle.command_writer.proofs.Storing.{pens_next, pens_fields, goes_same, mode_list, none_now}
-use borrow.Author.Rules.{rules}
 use Rattle.command_writer.proofs.insert.store_by_none.Goals as goal
 
 pub store_end-requires : goal.store_end-requires

@@ -6,7 +6,6 @@ use Rattle.bit_stores.proofs.Tables.{Goes, pens_same}
 use Rattle.table.specs.Writing.{Field}
 use Rattle.command_measure.specs.Fields.{ink, time_fields, mode_fields, end_fields, immediate_in, insert_flags, active_fields}
 use Rattle.command_writer.proofs.Storing.{pens_fields, goes_same, fits_front, mode_now, mode_timed, program_now}
-use borrow.Author.Rules.{rules}
 use Rattle.command_writer.proofs.insert.store_by_program.Goals as goal
 
 pub store_end-requires : goal.store_end-requires

@@ -1,10 +1,7 @@
 -- `command_writer::insert::store_component`: the tag, then the time unless all is immediate.
-use mathlib.Core.Path.{◌≡◌, refl, ap, sym, ◌∙◌}
-use native.Mathlib.Omega.{arith}
 use Rattle.bit_stores.proofs.Tables.{Goes}
 use Rattle.command_measure.specs.Fields.{ink, time_fields, component_fields}
 use Rattle.command_writer.proofs.Storing.{component_now, component_timed}
-use borrow.Author.Rules.{rules}
 use Rattle.command_writer.proofs.insert.store_component.Goals as goal
 
 pub returns-then-at_once : goal.returns-then-at_once

@@ -1,19 +1,8 @@
 -- `command_writer::insert::store_components`: the first i are stored.
-use Prim.Native.Nat.{ℕ, ◌+◌, ◌-◌, ◌*◌, ◌<◌, ◌≤◌}
-use mathlib.Core.List.{List, []}
-use Rattle.table.specs.declared.cursor.Cursor.{Cursor}
-use mathlib.Core.Path.{◌≡◌, refl, ap, sym, ◌∙◌}
-use native.Mathlib.Omega.{arith}
-use lib.ListN.{length, take, get_or}
-use lib.Seq.{take-take}
-use Rattle.command.specs.declared.components.InsertComponent.{InsertComponent}
-use Rattle.splice_time.specs.declared.SpliceTime.TheVariants.{Immediate}
+use Prim.Native.Nat.{◌-◌, ◌≤◌}
+use lib.ListN.{take}
 use Rattle.bit_stores.specs.Pen.{Pens}
-use Rattle.bit_stores.specs.Private.{Fits}
-use Rattle.bit_stores.proofs.Tables.{pens_nil, pens_same}
-use Rattle.command_measure.specs.Fields.{ink, component_fields, list_fields}
-use Rattle.command_writer.proofs.Storing.{component_more, pens_length, fits_fewer}
-use borrow.Author.Rules.{rules}
+use Rattle.command_measure.specs.Fields.{ink, list_fields}
 use Rattle.command_writer.proofs.insert.store_components.Given as goal
 
 abbrev pub invariant-loop-i : goal.invariant-loop-i

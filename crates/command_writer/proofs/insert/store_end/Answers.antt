@@ -1,9 +1,6 @@
 -- `command_writer::insert::store_end`: the duration, if there is one, and three numbers.
-use mathlib.Core.Path.{◌≡◌, refl, ap, ap₂, sym, ◌∙◌}
-use native.Mathlib.Omega.{arith}
-use Rattle.command_measure.specs.Fields.{ink, tail_fields}
+use Rattle.command_measure.specs.Fields.{tail_fields}
 use Rattle.command_writer.proofs.Storing.{break_none, break_goes, break_fits, tail_fits}
-use borrow.Author.Rules.{rules}
 use Rattle.command_writer.proofs.insert.store_end.Goals as goal
 
 pub store_tail-requires : goal.store_tail-requires

@@ -1,13 +1,12 @@
 -- `command_writer::insert::store_flags`: four flags and reserved bits are one byte.
 use Prim.Native.Nat.{◌+◌, ◌*◌}
-use mathlib.Core.Path.{◌≡◌, ap, ◌∙◌}
+use mathlib.Core.Path.{ap, ◌∙◌}
 use native.Mathlib.Omega.{arith}
 use Rattle.command.specs.Insert.{out_of_network, by_program}
 use Rattle.splice_time.specs.Break.{lasting}
 use Rattle.table.specs.Table.{flag_number}
 use Rattle.command_measure.specs.Fields.{insert_flags}
 use Rattle.command_writer.proofs.Storing.{pens_all, flags_bits, network_bit}
-use borrow.Author.Rules.{rules}
 use Rattle.command_writer.proofs.insert.store_flags.Goals as goal
 
 pub returns : goal.returns

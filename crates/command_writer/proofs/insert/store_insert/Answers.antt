@@ -1,16 +1,15 @@
 -- `command_writer::insert::store_insert`: cancelled or by program as without components, or by its components.
-use mathlib.Core.Path.{◌≡◌, refl, ap, sym, ◌∙◌}
-use mathlib.Core.List.{List, [], ◌∷◌}
+use mathlib.Core.Path.{◌≡◌, ap, sym}
+use mathlib.Core.List.{[], ◌∷◌}
 use Rattle.command.specs.Command.{array}
 use Rattle.command.specs.Insert.{WithComponents}
 use Rattle.command.specs.declared.insert.SpliceInsert.{SpliceInsert}
 use Rattle.bit_stores.proofs.Tables.{Goes, pens_same}
-use Rattle.table.specs.Writing.{Field, bits}
+use Rattle.table.specs.Writing.{bits}
 use Rattle.command_measure.specs.Fields.{ink, places_of, active_fields, insert_fields}
 use Rattle.command_measure.specs.Made.{counted}
 use Rattle.command_measure.proofs.Making.{none_counted, cancel_none, program_none}
 use Rattle.command_writer.proofs.Storing.{fits_same, active_insert_lem, after_event}
-use borrow.Author.Rules.{rules}
 use Rattle.command_writer.proofs.insert.store_insert.Goals as goal
 
 pub store_insert_without_components-requires : goal.store_insert_without_components-requires

@@ -1,14 +1,13 @@
 -- `command_writer::insert::store_insert_without_components`: the event, the cancel bit and the reserved bits as one number, and what is not cancelled.
-use Prim.Native.Nat.{ℕ, ◌+◌, ◌*◌, ◌%◌, ◌≤◌}
-use mathlib.Core.Path.{◌≡◌, refl, ap, sym, ◌∙◌}
+use Prim.Native.Nat.{◌+◌}
+use mathlib.Core.Path.{ap, sym}
 use native.Mathlib.Omega.{arith}
-use mathlib.Core.List.{List, [], ◌∷◌}
+use mathlib.Core.List.{[], ◌∷◌}
 use Rattle.command.specs.Command.{array}
 use Rattle.bit_stores.proofs.Tables.{Goes, pens_same}
-use Rattle.table.specs.Writing.{Field, bits}
+use Rattle.table.specs.Writing.{bits}
 use Rattle.command_measure.specs.Fields.{ink, places_of, active_fields}
-use Rattle.command_writer.proofs.Storing.{pens_all, fits_same, cancel_fields, active_insert_lem, head_bits, after_event}
-use borrow.Author.Rules.{rules}
+use Rattle.command_writer.proofs.Storing.{pens_all, cancel_fields, active_insert_lem, head_bits, after_event}
 use Rattle.command_writer.proofs.insert.store_insert_without_components.Goals as goal
 
 pub store_active-requires : goal.store_active-requires

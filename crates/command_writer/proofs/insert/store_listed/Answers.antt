@@ -1,10 +1,10 @@
 -- `command_writer::insert::store_listed`: the flags, the count, the components, and the rest.
-use mathlib.Core.Path.{◌≡◌, refl, ap, ap₂, sym, ◌∙◌}
+use mathlib.Core.Path.{◌≡◌, ap, ap₂, sym, ◌∙◌}
 use native.Mathlib.Omega.{arith}
-use Prim.Native.Nat.{ℕ, ◌+◌, ◌≤◌}
+use Prim.Native.Nat.{ℕ, ◌≤◌}
 use mathlib.Core.Bool.{Bool}
-use mathlib.Core.List.{List, [], ◌∷◌, ◌++◌}
-use lib.ListN.{length, take}
+use mathlib.Core.List.{List, ◌∷◌, ◌++◌}
+use lib.ListN.{take}
 use Rattle.command.specs.Insert.{count}
 use Rattle.bit_stores.specs.Private.{Fits}
 use Rattle.bit_stores.proofs.Tables.{Goes, pens_same}
@@ -14,7 +14,6 @@ use Rattle.table.proofs.Bits.{bytes_all}
 use Rattle.command_measure.specs.Fields.{ink, list_fields, mode_fields, end_fields, immediate_in, insert_flags, places_of, active_fields}
 use Rattle.command_measure.proofs.Making.{listed_now}
 use Rattle.command_writer.proofs.Storing.{pens_next, pens_fields, pens_settled, goes_same, fits_front, fits_same, mode_list}
-use borrow.Author.Rules.{rules}
 use Rattle.command_writer.proofs.insert.store_listed.Goals as goal
 
 pub store_components-c-requires : goal.store_components-c-requires

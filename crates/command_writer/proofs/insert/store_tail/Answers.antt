@@ -1,10 +1,8 @@
 -- `command_writer::insert::store_tail`: three numbers as one.
 use Prim.Native.Nat.{◌+◌, ◌*◌}
-use mathlib.Core.Path.{◌≡◌}
 use native.Mathlib.Omega.{arith}
 use Rattle.command_measure.specs.Fields.{tail_fields}
 use Rattle.command_writer.proofs.Storing.{pens_all, tail_bits}
-use borrow.Author.Rules.{rules}
 use Rattle.command_writer.proofs.insert.store_tail.Goals as goal
 
 pub returns : goal.returns

@@ -1,8 +1,5 @@
 -- `command_writer::time::store_time`, by the kind of the time.
-use mathlib.Core.Path.{◌≡◌, refl, ap, sym, ◌∙◌}
-use native.Mathlib.Omega.{arith}
 use Rattle.command_writer.proofs.Storing.{time_open, time_now, time_at}
-use borrow.Author.Rules.{rules}
 use Rattle.command_writer.proofs.time.store_time.Goals as goal
 
 pub returns-in-Unspecified : goal.returns-in-Unspecified

@@ -1,8 +1,6 @@
 -- `daterange_line::digits::are_digits`: of the bytes passed, all are digits or not.
-use Prim.Native.Nat.{◌-◌, ◌≤◌}
-use mathlib.Core.Path.{◌≡◌, ap, sym, ◌∙◌}
+use mathlib.Core.Path.{ap, sym, ◌∙◌}
 use native.Mathlib.Omega.{arith}
-use lib.ListN.{length, take}
 use lib.Seq.{take_all}
 use Rattle.attribute_list.specs.Grammar.{all, hex_byte}
 use Rattle.daterange_line.proofs.Octets.{all_none, all_next}

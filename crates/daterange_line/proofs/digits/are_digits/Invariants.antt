@@ -1,11 +1,8 @@
 -- `daterange_line::digits::are_digits`: of the bytes passed, all are digits or not.
 use Prim.Native.Nat.{◌-◌, ◌≤◌}
-use mathlib.Core.Path.{◌≡◌, ap, sym, ◌∙◌}
-use native.Mathlib.Omega.{arith}
+use mathlib.Core.Path.{◌≡◌}
 use lib.ListN.{length, take}
-use lib.Seq.{take_all}
 use Rattle.attribute_list.specs.Grammar.{all, hex_byte}
-use Rattle.daterange_line.proofs.Octets.{all_none, all_next}
 use Rattle.daterange_line.proofs.digits.are_digits.Given as goal
 
 abbrev pub invariant-loop-i : goal.invariant-loop-i

@@ -1,13 +1,9 @@
 -- `daterange_line::digits::decode`: the bytes of the digits passed stand in the target.
-use Prim.Native.Nat.{◌+◌, ◌-◌, ◌*◌, ◌/◌, ◌≤◌}
-use mathlib.Core.Path.{◌≡◌, ap, sym, ◌∙◌}
-use native.Mathlib.Omega.{arith}
+use Prim.Native.Nat.{◌-◌, ◌*◌, ◌/◌, ◌≤◌}
+use mathlib.Core.Path.{◌≡◌}
 use lib.ListN.{length, take}
 use Rattle.table.specs.Lent.{stored}
-use Rattle.table.proofs.Stores.{stored_nil, length_stored}
-use Rattle.attribute_list.specs.Grammar.{hex_byte}
 use Rattle.daterange_line.specs.Reading.{octets}
-use Rattle.daterange_line.proofs.Octets.{all_at, octets_store, octets_all}
 use Rattle.daterange_line.proofs.digits.decode.Given as goal
 
 abbrev pub invariant-loop-i : goal.invariant-loop-i

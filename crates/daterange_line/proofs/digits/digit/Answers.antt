@@ -1,5 +1,4 @@
 -- `daterange_line::digits::digit` meets its contract.
-use borrow.Author.Rules.{rules}
 use Rattle.daterange_line.proofs.Octets.{digit_is}
 use Rattle.daterange_line.proofs.digits.digit.Goals as goal
 

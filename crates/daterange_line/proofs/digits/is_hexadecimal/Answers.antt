@@ -3,7 +3,6 @@ use mathlib.Core.Path.{sym, ◌∙◌}
 use native.Mathlib.Omega.{arith}
 use borrow.Author.Tests.{not-true, not-false}
 use Rattle.daterange_line.proofs.Hexadecimal.{hex_short, hex_odd, hex_first, hex_x, hex_digits}
-use borrow.Author.Rules.{rules}
 use Rattle.daterange_line.proofs.digits.is_hexadecimal.Goals as goal
 
 pub returns-then-len-le2 : goal.returns-then-len-le2

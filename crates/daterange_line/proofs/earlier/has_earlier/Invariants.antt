@@ -1,11 +1,7 @@
 -- `daterange_line::earlier::has_earlier`: the search from `at` on answers what the whole search answers.
-use mathlib.Core.Path.{◌≡◌, refl, sym, ◌∙◌}
-use native.Mathlib.Omega.{arith}
+use mathlib.Core.Path.{◌≡◌}
 use lib.ListN.{length}
 use Rattle.daterange_line.specs.Private.{earlier}
-use Rattle.attribute_list.proofs.Completes.{within_line}
-use Rattle.daterange_line.proofs.Searches.{earlier_end, earlier_none, earlier_fault, earlier_found, earlier_next}
-use borrow.Author.Rules.{rules}
 use Rattle.daterange_line.proofs.earlier.has_earlier.Given as goal
 
 abbrev pub invariant-loop-left : goal.invariant-loop-left

@@ -1,6 +1,5 @@
 -- `daterange_line::earlier::size` meets its contract.
 use native.Mathlib.Omega.{arith}
-use borrow.Author.Rules.{rules}
 use Rattle.daterange_line.proofs.earlier.size.Goals as goal
 
 pub returns-then-quoted : goal.returns-then-quoted

@@ -1,5 +1,4 @@
 -- `daterange_line::earlier::value_from` meets its contract.
-use borrow.Author.Rules.{rules}
 use Rattle.daterange_line.proofs.earlier.value_from.Goals as goal
 
 pub returns-then-quoted : goal.returns-then-quoted

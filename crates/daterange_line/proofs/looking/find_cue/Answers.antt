@@ -1,11 +1,9 @@
 -- `daterange_line::looking::find_cue`: the walk from `at` on answers what the line says.
-use mathlib.Core.Path.{◌≡◌, refl, sym, ◌∙◌}
+use mathlib.Core.Path.{sym, ◌∙◌}
 use native.Mathlib.Omega.{arith}
 use borrow.Author.Tests.{not-true, not-false}
-use Rattle.daterange_line.specs.Private.{walk, look_of}
 use Rattle.daterange_line.specs.declared.looking.Turn.TheVariants.{Bad, Done, More}
 use Rattle.daterange_line.proofs.Looks.{look_is, look_other, look_short, walk_none, walk_turn}
-use borrow.Author.Rules.{rules}
 use Rattle.daterange_line.proofs.looking.find_cue.Goals as goal
 
 pub returns-then-line-lt17 : goal.returns-then-line-lt17

@@ -1,11 +1,6 @@
 -- `daterange_line::looking::find_cue`: the walk from `at` on answers what the line says.
-use mathlib.Core.Path.{◌≡◌, refl, sym, ◌∙◌}
-use native.Mathlib.Omega.{arith}
-use borrow.Author.Tests.{not-true, not-false}
+use mathlib.Core.Path.{◌≡◌}
 use Rattle.daterange_line.specs.Private.{walk, look_of}
-use Rattle.daterange_line.specs.declared.looking.Turn.TheVariants.{Bad, Done, More}
-use Rattle.daterange_line.proofs.Looks.{look_is, look_other, look_short, walk_none, walk_turn}
-use borrow.Author.Rules.{rules}
 use Rattle.daterange_line.proofs.looking.find_cue.Given as goal
 
 abbrev pub invariant-loop-left : goal.invariant-loop-left

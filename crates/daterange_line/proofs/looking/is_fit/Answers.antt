@@ -6,7 +6,6 @@ use Prim.Native.Nat.{ℕ}
 use Rattle.daterange_line.specs.Reading.{fits_for}
 use Rattle.attribute_list.specs.Cutting.{value_in}
 use Rattle.daterange_line.specs.declared.Known.TheVariants.{Id, Date}
-use borrow.Author.Rules.{rules}
 use Rattle.daterange_line.proofs.looking.is_fit.Goals as goal
 
 id_quoted : (q : Bool) (v : List ℕ) → q ≡ fits_for Id (value_in q v)

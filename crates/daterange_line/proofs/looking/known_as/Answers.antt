@@ -1,5 +1,5 @@
 -- `daterange_line::looking::known_as`, name by name.
-use mathlib.Core.Path.{refl, sym, ◌∙◌}
+use mathlib.Core.Path.{sym, ◌∙◌}
 use Rattle.daterange_line.specs.Reading.{known_of}
 use Rattle.daterange_line.proofs.looking.known_as.Goals as goal
 

@@ -1,6 +1,5 @@
 -- `daterange_line::looking::note`, name by name.
 use borrow.Author.Tests.{eq-eqb, ne_eqb}
-use borrow.Author.Rules.{rules}
 use Rattle.daterange_line.proofs.looking.note.Goals as goal
 
 pub returns-then-digits-eq0 : goal.returns-then-digits-eq0

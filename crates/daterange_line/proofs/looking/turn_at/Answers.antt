@@ -3,7 +3,6 @@ use native.Mathlib.Omega.{arith}
 use borrow.Author.Tests.{not-true, not-false}
 use Rattle.attribute_list.proofs.Completes.{within_line}
 use Rattle.daterange_line.proofs.Turns.{turn_nothing, turn_earlier, turn_unfit, turn_done, turn_more}
-use borrow.Author.Rules.{rules}
 use Rattle.daterange_line.proofs.looking.turn_at.Goals as goal
 
 pub cut_at-requires : goal.cut_at-requires

@@ -1,6 +1,5 @@
 -- `daterange_writer::encoding::capital` meets its contract.
 use borrow.Author.Tests.{lt-ltb, le-ltb}
-use borrow.Author.Rules.{rules}
 use Rattle.daterange_writer.proofs.encoding.capital.Goals as goal
 
 pub returns-then-n-lt10 : goal.returns-then-n-lt10

@@ -1,14 +1,9 @@
 -- `daterange_writer::encoding::encode`: the digits of the bytes passed stand in the target.
-use Prim.Native.Nat.{ℕ, ◌-◌, ◌≤◌}
-use mathlib.Core.List.{List}
-use mathlib.Core.Path.{◌≡◌, ap, sym, ◌∙◌}
-use native.Mathlib.Omega.{arith}
-use lib.ListN.{length, take, length-set}
-use lib.Seq.{take_all}
+use Prim.Native.Nat.{◌-◌, ◌≤◌}
+use mathlib.Core.Path.{◌≡◌}
+use lib.ListN.{length, take}
 use Rattle.table.specs.Lent.{stored}
-use Rattle.table.proofs.Stores.{stored_nil, length_stored}
 use Rattle.daterange_writer.specs.Writing.{hex_of}
-use Rattle.daterange_writer.proofs.Digits.{hex_store}
 use Rattle.daterange_writer.proofs.encoding.encode.Given as goal
 
 abbrev pub invariant-loop-i : goal.invariant-loop-i

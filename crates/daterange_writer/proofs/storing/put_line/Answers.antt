@@ -1,7 +1,5 @@
 -- `daterange_writer::storing::put_line`: each piece stands behind the one before.
 use Rattle.daterange_writer.proofs.Stored.{section_stored}
-use mathlib.Core.Path.{refl}
-use borrow.Author.Rules.{rules}
 use Rattle.daterange_writer.proofs.storing.put_line.Goals as goal
 
 pub put_bytes-requires : goal.put_bytes-requires

@@ -5,7 +5,6 @@ use native.Mathlib.Omega.{arith}
 use lib.ListN.{length}
 use borrow.Author.Tests.{not-true, not-false, leb-true}
 use Rattle.daterange_writer.proofs.Stored.{store_short, store_all}
-use borrow.Author.Rules.{rules}
 use Rattle.daterange_writer.proofs.storing.store_line.Goals as goal
 
 pub has_room-requires : goal.has_room-requires

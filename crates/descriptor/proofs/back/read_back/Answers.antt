@@ -6,7 +6,6 @@ use lib.ListN.{length}
 use Rattle.descriptor.specs.Private.{sub_segments_read}
 use Rattle.descriptor.proofs.Backs.{no_counts, back_short, back_is}
 use Rattle.descriptor.proofs.Parts.{told}
-use borrow.Author.Rules.{rules}
 use Rattle.descriptor.proofs.back.read_back.Goals as goal
 
 pub returns-then-s-at-lt3 : goal.returns-then-s-at-lt3

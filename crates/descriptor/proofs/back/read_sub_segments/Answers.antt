@@ -1,7 +1,6 @@
 -- `descriptor::back::read_sub_segments`, by how many bytes are left.
 use mathlib.Core.Path.{refl}
 use Rattle.descriptor.proofs.Backs.{no_sub_segments, one_left, sub_segments_are}
-use borrow.Author.Rules.{rules}
 use Rattle.descriptor.proofs.back.read_sub_segments.Goals as goal
 
 pub returns-then-left-eq0 : goal.returns-then-left-eq0

@@ -1,8 +1,7 @@
 -- `descriptor::front::device`: what the named numbers say.
-use mathlib.Core.Path.{◌≡◌, ap, sym, ◌∙◌}
+use mathlib.Core.Path.{ap, sym, ◌∙◌}
 use Rattle.names.specs.Flags.{restrictions_answer}
 use Rattle.descriptor.specs.Segmentation.{named, device_of}
-use borrow.Author.Rules.{rules}
 use Rattle.descriptor.proofs.front.device.Goals as goal
 
 pub returns-in-Is : goal.returns-in-Is

@@ -1,6 +1,5 @@
 -- `descriptor::front::lacked`, by how many bytes are there.
 use Rattle.descriptor.proofs.Parts.{lacked_none, lacked_one, lacked_more}
-use borrow.Author.Rules.{rules}
 use Rattle.descriptor.proofs.front.lacked.Goals as goal
 
 pub returns-then-left-eq0 : goal.returns-then-left-eq0

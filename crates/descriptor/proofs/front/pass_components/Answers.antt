@@ -1,9 +1,6 @@
 -- `descriptor::front::pass_components`: all of them, or what the first that is not whole lacks.
-use Prim.Native.Nat.{ℕ, ◌+◌, ◌*◌}
-use mathlib.Core.Path.{refl, ap, sym}
 use native.Mathlib.Omega.{arith}
 use Rattle.descriptor.proofs.Parts.{components_there, components_lack, as_counted, lacked_as}
-use borrow.Author.Rules.{rules}
 use Rattle.descriptor.proofs.front.pass_components.Goals as goal
 
 pub returns-then-left-bytes : goal.returns-then-left-bytes

@@ -3,7 +3,6 @@ use mathlib.Core.Path.{refl, sym}
 use native.Mathlib.Omega.{arith}
 use Rattle.table.proofs.Fields.{byte_field}
 use Rattle.descriptor.proofs.Parts.{component_there, component_lacks, lacked_as}
-use borrow.Author.Rules.{rules}
 use Rattle.descriptor.proofs.front.read_component.Goals as goal
 
 pub returns-then-left-lt6 : goal.returns-then-left-lt6

@@ -2,7 +2,6 @@
 use mathlib.Core.Path.{refl}
 use native.Mathlib.Omega.{arith}
 use Rattle.descriptor.proofs.Parts.{no_ticks, lasts, no_duration}
-use borrow.Author.Rules.{rules}
 use Rattle.descriptor.proofs.front.read_duration.Goals as goal
 
 pub returns-then-left-lt5 : goal.returns-then-left-lt5

@@ -4,7 +4,6 @@ use mathlib.Core.Path.{sym}
 use Rattle.table.proofs.Fields.{byte_field}
 use Rattle.descriptor.specs.Private.{components_passed}
 use Rattle.descriptor.proofs.Parts.{told, by_program_lem, no_count, no_components_lem, by_components}
-use borrow.Author.Rules.{rules}
 use Rattle.descriptor.proofs.front.read_mode.Goals as goal
 
 pub returns-then-program : goal.returns-then-program

@@ -7,7 +7,6 @@ use Rattle.descriptor.specs.Segmentation.{mode, duration}
 use Rattle.descriptor.specs.Private.{mode_read, duration_read, upid_read}
 use Rattle.descriptor.proofs.Parts.{told, ends_inside}
 use Rattle.descriptor.proofs.Segmentations.{no_flags, no_mode, no_lasting, no_upid, front_is}
-use borrow.Author.Rules.{rules}
 use Rattle.descriptor.proofs.front.read_mode_and_upid.Goals as goal
 
 pub returns-then-s-at : goal.returns-then-s-at

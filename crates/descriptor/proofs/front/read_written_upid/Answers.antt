@@ -4,7 +4,6 @@ use mathlib.Core.Path.{refl}
 use native.Mathlib.Omega.{arith}
 use lib.ListN.{length}
 use Rattle.descriptor.proofs.Parts.{no_head, no_bytes, upid_at_lem}
-use borrow.Author.Rules.{rules}
 use Rattle.descriptor.proofs.front.read_written_upid.Goals as goal
 
 pub returns-then-left-lt2 : goal.returns-then-left-lt2

@@ -1,7 +1,6 @@
 -- `descriptor::front::restrictions`, by the third flag.
 use borrow.Author.Tests.{eq-eqb, ne_eqb}
 use Rattle.descriptor.specs.Private.{restrictions_in}
-use borrow.Author.Rules.{rules}
 use Rattle.descriptor.proofs.front.restrictions.Goals as goal
 
 pub returns-then-flags-eq1 : goal.returns-then-flags-eq1

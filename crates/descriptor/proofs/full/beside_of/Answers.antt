@@ -1,5 +1,4 @@
 -- `descriptor::full::beside_of`, by the kind of what was read.
-use borrow.Author.Rules.{rules}
 use Rattle.descriptor.proofs.full.beside_of.Goals as goal
 
 pub returns-in-Segmentation : goal.returns-in-Segmentation

@@ -1,15 +1,11 @@
 -- `descriptor::full::list_components`. The loop's invariant: what is left, stored from place i on, gives what the whole gives.
-use Prim.Native.Nat.{◌+◌, ◌-◌, ◌≤◌}
-use mathlib.Core.List.{[]}
-use mathlib.Core.Path.{◌≡◌, ◌∙◌}
+use mathlib.Core.Path.{◌∙◌}
 use native.Mathlib.Omega.{arith}
-use lib.ListN.{length, length-set}
+use lib.ListN.{length-set}
 use Rattle.descriptor.specs.Segmentation.{component}
 use Rattle.descriptor.specs.Private.{component_read}
-use Rattle.descriptor.specs.Full.{filled}
-use Rattle.descriptor.proofs.Besides.{filling_from, fill_start, fill_end, fill_turn, fill_short}
+use Rattle.descriptor.proofs.Besides.{fill_start, fill_end, fill_turn, fill_short}
 use Rattle.descriptor.proofs.Parts.{told, ends_inside}
-use borrow.Author.Rules.{rules}
 use Rattle.descriptor.proofs.full.list_components.Goals as goal
 
 pub loop-i-init : goal.loop-i-init

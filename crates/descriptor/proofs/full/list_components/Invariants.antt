@@ -1,15 +1,10 @@
 -- `descriptor::full::list_components`. The loop's invariant: what is left, stored from place i on, gives what the whole gives.
-use Prim.Native.Nat.{◌+◌, ◌-◌, ◌≤◌}
+use Prim.Native.Nat.{◌-◌, ◌≤◌}
 use mathlib.Core.List.{[]}
-use mathlib.Core.Path.{◌≡◌, ◌∙◌}
-use native.Mathlib.Omega.{arith}
-use lib.ListN.{length, length-set}
-use Rattle.descriptor.specs.Segmentation.{component}
-use Rattle.descriptor.specs.Private.{component_read}
+use mathlib.Core.Path.{◌≡◌}
+use lib.ListN.{length}
 use Rattle.descriptor.specs.Full.{filled}
-use Rattle.descriptor.proofs.Besides.{filling_from, fill_start, fill_end, fill_turn, fill_short}
-use Rattle.descriptor.proofs.Parts.{told, ends_inside}
-use borrow.Author.Rules.{rules}
+use Rattle.descriptor.proofs.Besides.{filling_from}
 use Rattle.descriptor.proofs.full.list_components.Given as goal
 
 abbrev pub invariant-loop-i : goal.invariant-loop-i

@@ -6,7 +6,6 @@ use Rattle.descriptor.specs.Private.{mode_and_upid_read, back_read, head_read}
 use Rattle.descriptor.proofs.Besides.{components_from_lem, eidr_as, beside_no_head, beside_cancelled, beside_no_front, beside_no_back, beside_program, beside_components}
 use Rattle.descriptor.proofs.Parts.{told}
 use Rattle.descriptor.proofs.Segmentations.{front_inside}
-use borrow.Author.Rules.{rules}
 use Rattle.descriptor.proofs.full.read_beside.Goals as goal
 
 pub returns-in-Lacks : goal.returns-in-Lacks

@@ -1,6 +1,5 @@
 -- `descriptor::full::read_full_descriptor`: the reading, and what stands beside it.
 use Rattle.descriptor.proofs.Besides.{full_is}
-use borrow.Author.Rules.{rules}
 use Rattle.descriptor.proofs.full.read_full_descriptor.Goals as goal
 
 pub returns : goal.returns

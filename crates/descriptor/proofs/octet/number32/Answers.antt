@@ -1,6 +1,5 @@
 -- `descriptor::octet::number32`: four bytes, each behind those before it.
 use Rattle.descriptor.proofs.Octets.{is_four}
-use borrow.Author.Rules.{rules}
 use Rattle.descriptor.proofs.octet.number32.Goals as goal
 
 pub returns : goal.returns

@@ -1,6 +1,5 @@
 -- `descriptor::octet::number40`: one byte behind four.
 use Rattle.descriptor.proofs.Octets.{is_five}
-use borrow.Author.Rules.{rules}
 use Rattle.descriptor.proofs.octet.number40.Goals as goal
 
 pub returns : goal.returns

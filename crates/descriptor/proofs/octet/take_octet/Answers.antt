@@ -1,9 +1,8 @@
 -- `descriptor::octet::take_octet`: eight bits hold what is taken.
-use mathlib.Core.Path.{◌≡◌, refl, ap, sym, ◌∙◌}
+use mathlib.Core.Path.{sym, ◌∙◌}
 use Rattle.table.specs.Cursor.{place}
 use native.Mathlib.Omega.{arith}
 use Rattle.descriptor.proofs.Octets.{fits_octet, octet_is, octet_none}
-use borrow.Author.Rules.{rules}
 use Rattle.descriptor.proofs.octet.take_octet.Goals as goal
 
 pub overflow_cast-result : goal.overflow_cast-result

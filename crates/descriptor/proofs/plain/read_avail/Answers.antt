@@ -2,7 +2,6 @@
 use native.Mathlib.Omega.{arith}
 use Rattle.table.proofs.Reading.{bits_are}
 use Rattle.descriptor.proofs.Plains.{avail_short, avail_is}
-use borrow.Author.Rules.{rules}
 use Rattle.descriptor.proofs.plain.read_avail.Goals as goal
 
 pub returns-then-payload-lt4 : goal.returns-then-payload-lt4

@@ -1,7 +1,6 @@
 -- `descriptor::plain::read_dtmf` walks as its table does: each step of the cursor is one of the table.
-use mathlib.Core.Path.{◌≡◌, refl, ap, sym, ◌∙◌}
+use mathlib.Core.Path.{sym, ◌∙◌}
 use Rattle.descriptor.proofs.Plains.{no_preroll, no_count, no_reserved, no_chars, dtmf_is}
-use borrow.Author.Rules.{rules}
 use Rattle.descriptor.proofs.plain.read_dtmf.Goals as goal
 
 pub returns-in-Lacks : goal.returns-in-Lacks

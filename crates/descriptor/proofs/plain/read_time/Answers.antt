@@ -2,7 +2,6 @@
 use native.Mathlib.Omega.{arith}
 use Rattle.table.proofs.Reading.{bits_are}
 use Rattle.descriptor.proofs.Plains.{time_short, time_is}
-use borrow.Author.Rules.{rules}
 use Rattle.descriptor.proofs.plain.read_time.Goals as goal
 
 pub returns-then-payload-lt12 : goal.returns-then-payload-lt12

@@ -1,9 +1,8 @@
 -- `descriptor::segmentation::checked_upid`: the answer of the UPID's own rules, its view moved.
-use mathlib.Core.Path.{◌≡◌, refl, ap, sym, ◌∙◌}
+use mathlib.Core.Path.{refl, ap, ◌∙◌}
 use native.Mathlib.Omega.{arith}
 use Rattle.upid.specs.declared.UpidRead.{UpidRead}
 use Rattle.descriptor.proofs.Segmentations.{upid_fine, upid_refused_lem, text_fits}
-use borrow.Author.Rules.{rules}
 use Rattle.descriptor.proofs.segmentation.checked_upid.Goals as goal
 
 pub overflow_add-result : goal.overflow_add-result

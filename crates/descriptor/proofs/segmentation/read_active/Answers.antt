@@ -4,7 +4,6 @@ use mathlib.Core.Path.{sym, ◌∙◌}
 use Rattle.descriptor.specs.Private.{front_read, back_read}
 use Rattle.descriptor.proofs.Parts.{told}
 use Rattle.descriptor.proofs.Segmentations.{front_inside, no_front, bad_upid, no_back, active_is}
-use borrow.Author.Rules.{rules}
 use Rattle.descriptor.proofs.segmentation.read_active.Goals as goal
 
 pub returns-in-Lacks : goal.returns-in-Lacks

@@ -1,6 +1,5 @@
 -- `descriptor::segmentation::read_head`: four bytes, and the first bit of the next.
 use Rattle.descriptor.proofs.Segmentations.{no_event, no_cancel, head_is}
-use borrow.Author.Rules.{rules}
 use Rattle.descriptor.proofs.segmentation.read_head.Goals as goal
 
 pub returns-then-left-lt4 : goal.returns-then-left-lt4

@@ -3,7 +3,6 @@ use mathlib.Core.Path.{◌∙◌}
 use Rattle.descriptor.specs.Private.{head_read}
 use Rattle.descriptor.proofs.Parts.{told}
 use Rattle.descriptor.proofs.Segmentations.{no_head, cancel_is, detail_from_lem}
-use borrow.Author.Rules.{rules}
 use Rattle.descriptor.proofs.segmentation.read_segmentation.Goals as goal
 
 pub returns-in-Lacks : goal.returns-in-Lacks

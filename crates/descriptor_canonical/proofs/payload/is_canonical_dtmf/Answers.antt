@@ -1,6 +1,5 @@
 -- `descriptor_canonical::payload::is_canonical_dtmf`, test by test.
 use Rattle.descriptor_canonical.proofs.Tests.{dtmf_short, dtmf_spoilt, dtmf_counted}
-use borrow.Author.Rules.{rules}
 use Rattle.descriptor_canonical.proofs.payload.is_canonical_dtmf.Goals as goal
 
 pub returns-then-s-lt2 : goal.returns-then-s-lt2

@@ -1,8 +1,5 @@
 -- `descriptor_canonical::segment::components_ones`. The loop's invariant: what is left says what the whole says.
-use Prim.Native.Nat.{◌+◌, ◌-◌, ◌*◌, ◌≤◌}
-use mathlib.Core.Path.{◌≡◌}
 use native.Mathlib.Omega.{arith}
-use Rattle.descriptor_canonical.specs.Private.{components_ones}
 use Rattle.descriptor_canonical.proofs.Tests.{ones_start, ones_turn, ones_stop, ones_end}
 use Rattle.descriptor_canonical.proofs.segment.components_ones.Goals as goal
 

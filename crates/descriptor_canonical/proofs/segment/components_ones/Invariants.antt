@@ -1,9 +1,7 @@
 -- `descriptor_canonical::segment::components_ones`. The loop's invariant: what is left says what the whole says.
 use Prim.Native.Nat.{◌+◌, ◌-◌, ◌*◌, ◌≤◌}
 use mathlib.Core.Path.{◌≡◌}
-use native.Mathlib.Omega.{arith}
 use Rattle.descriptor_canonical.specs.Private.{components_ones}
-use Rattle.descriptor_canonical.proofs.Tests.{ones_start, ones_turn, ones_stop, ones_end}
 use Rattle.descriptor_canonical.proofs.segment.components_ones.Given as goal
 
 abbrev pub invariant-loop-i : goal.invariant-loop-i

@@ -1,7 +1,6 @@
 -- `descriptor_canonical::segment::ends_at`, test by test.
 use borrow.Author.Tests.{eq-eqb, ne_eqb}
 use Rattle.descriptor_canonical.specs.Private.{ends_at}
-use borrow.Author.Rules.{rules}
 use Rattle.descriptor_canonical.proofs.segment.ends_at.Goals as goal
 
 pub returns-then-len-at : goal.returns-then-len-at

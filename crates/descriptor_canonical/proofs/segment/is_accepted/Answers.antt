@@ -1,7 +1,6 @@
 -- `descriptor_canonical::segment::is_accepted`, by the reader's answer.
 use mathlib.Core.Path.{ap, sym, ◌∙◌}
 use Rattle.descriptor_measure.specs.Writing.{accepts}
-use borrow.Author.Rules.{rules}
 use Rattle.descriptor_canonical.proofs.segment.is_accepted.Goals as goal
 
 pub returns-in-Fine : goal.returns-in-Fine

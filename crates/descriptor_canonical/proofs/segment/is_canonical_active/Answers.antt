@@ -1,6 +1,5 @@
 -- `descriptor_canonical::segment::is_canonical_active`, test by test.
 use Rattle.descriptor_canonical.proofs.Tests.{flags_short, flags_spoilt, by_program_lem, by_components}
-use borrow.Author.Rules.{rules}
 use Rattle.descriptor_canonical.proofs.segment.is_canonical_active.Goals as goal
 
 pub returns-then-s-lt6 : goal.returns-then-s-lt6

@@ -1,6 +1,5 @@
 -- `descriptor_canonical::segment::is_canonical_by_components`, test by test.
 use Rattle.descriptor_canonical.proofs.Tests.{count_short, count_over, count_spoilt, count_rest}
-use borrow.Author.Rules.{rules}
 use Rattle.descriptor_canonical.proofs.segment.is_canonical_by_components.Goals as goal
 
 pub returns-then-s-lt7 : goal.returns-then-s-lt7

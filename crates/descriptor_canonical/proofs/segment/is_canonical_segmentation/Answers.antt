@@ -1,6 +1,5 @@
 -- `descriptor_canonical::segment::is_canonical_segmentation`, test by test.
 use Rattle.descriptor_canonical.proofs.Tests.{head_short, head_spoilt, is_cancelled, is_activeed}
-use borrow.Author.Rules.{rules}
 use Rattle.descriptor_canonical.proofs.segment.is_canonical_segmentation.Goals as goal
 
 pub returns-then-s-lt5 : goal.returns-then-s-lt5

@@ -6,7 +6,6 @@ use lib.ListN.{length}
 use borrow.Author.Tests.{not-false}
 use Rattle.descriptor_canonical.proofs.Segments.{ends_there_at}
 use Rattle.descriptor_canonical.proofs.Tests.{upid_short, upid_spare, upid_empty, upid_full}
-use borrow.Author.Rules.{rules}
 use Rattle.descriptor_canonical.proofs.segment.is_canonical_upid.Goals as goal
 
 pub returns-then-end-at : goal.returns-then-end-at

@@ -4,7 +4,6 @@ use mathlib.Core.Path.{sym, ◌∙◌}
 use native.Mathlib.Omega.{arith}
 use lib.ListN.{length}
 use Rattle.descriptor_loop.proofs.Steps.{step_over, step_full, step_small, step_complete}
-use borrow.Author.Rules.{rules}
 use Rattle.descriptor_loop.proofs.iteration.by_length.Goals as goal
 
 pub returns-then-left-len : goal.returns-then-left-len

@@ -1,12 +1,8 @@
 -- `descriptor_loop::iteration::count_items` meets its contract: what was counted and what is left are all the items.
 use Prim.Native.Nat.{◌+◌, ◌-◌, ◌≤◌}
 use mathlib.Core.Path.{◌≡◌}
-use native.Mathlib.Omega.{arith}
 use lib.ListN.{length}
-use borrow.Author.Rules.{rules}
-use borrow.Author.Tests.{lt-ltb}
-use Rattle.descriptor_loop.specs.Items.{items_from, items_of, count_of}
-use Rattle.descriptor_loop.proofs.Lists.{counted_none, counted_one, counted_all, step_forward}
+use Rattle.descriptor_loop.specs.Items.{items_from, items_of}
 use Rattle.descriptor_loop.proofs.iteration.count_items.Given as goal
 
 abbrev pub invariant-loop-offset : goal.invariant-loop-offset

@@ -3,7 +3,6 @@ use Prim.Native.Nat.{◌+◌, ◌-◌}
 use mathlib.Core.Path.{◌∙◌}
 use native.Mathlib.Omega.{arith}
 use Rattle.descriptor_loop.proofs.Completes.{is_movable, refused_movable, complete_refused, avail_is, dtmf_is, segmentation_is_lem, time_is, reserved_is}
-use borrow.Author.Rules.{rules}
 use Rattle.descriptor_loop.proofs.iteration.read_complete.Goals as goal
 
 pub move_refusal-requires : goal.move_refusal-requires

@@ -1,7 +1,6 @@
 -- `descriptor_loop::iteration::step` meets its contract: each answer takes the definition's tests in turn.
 use mathlib.Core.Path.{sym, ◌∙◌}
 use Rattle.descriptor_loop.proofs.Steps.{step_long, step_end, step_few}
-use borrow.Author.Rules.{rules}
 use Rattle.descriptor_loop.proofs.iteration.step.Goals as goal
 
 pub returns-then-end-gt-MAX_LOOP : goal.returns-then-end-gt-MAX_LOOP

@@ -1,5 +1,4 @@
 -- `descriptor_loop::place::bytes_of` meets its contract: the view is the item's.
-use borrow.Author.Rules.{rules}
 use Rattle.descriptor_loop.proofs.place.bytes_of.Goals as goal
 
 pub returns : goal.returns

@@ -1,5 +1,4 @@
 -- `descriptor_loop::place::descriptor_view` meets its contract, kind by kind.
-use borrow.Author.Rules.{rules}
 use Rattle.descriptor_loop.proofs.place.descriptor_view.Goals as goal
 
 pub returns-in-Avail : goal.returns-in-Avail

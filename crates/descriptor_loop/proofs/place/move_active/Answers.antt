@@ -1,6 +1,5 @@
 -- `descriptor_loop::place::move_active` meets its contract: its UPID moves, and all else stays.
 use Rattle.descriptor_loop.proofs.Places.{active_there}
-use borrow.Author.Rules.{rules}
 use Rattle.descriptor_loop.proofs.place.move_active.Goals as goal
 
 pub returns : goal.returns

@@ -1,6 +1,5 @@
 -- `descriptor_loop::place::move_descriptor` meets its contract, kind by kind.
 use Rattle.descriptor_loop.proofs.Places.{dtmf_first, active_all, private_first, cancel_stays, active_moves}
-use borrow.Author.Rules.{rules}
 use Rattle.descriptor_loop.proofs.place.move_descriptor.Goals as goal
 
 pub move_view-requires : goal.move_view-requires

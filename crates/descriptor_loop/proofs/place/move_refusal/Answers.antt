@@ -1,6 +1,5 @@
 -- `descriptor_loop::place::move_refusal` meets its contract: only refusal 24 has a view.
 use Rattle.descriptor_loop.proofs.Places.{text_first}
-use borrow.Author.Rules.{rules}
 use Rattle.descriptor_loop.proofs.place.move_refusal.Goals as goal
 
 pub move_view-requires : goal.move_view-requires

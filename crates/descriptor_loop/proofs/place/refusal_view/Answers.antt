@@ -1,5 +1,4 @@
 -- `descriptor_loop::place::refusal_view` meets its contract, case by case.
-use borrow.Author.Rules.{rules}
 use Rattle.descriptor_loop.proofs.place.refusal_view.Goals as goal
 
 pub returns-in-InputTooLong : goal.returns-in-InputTooLong

@@ -1,5 +1,4 @@
 -- `descriptor_loop::place::view_of` meets its contract, case by case.
-use borrow.Author.Rules.{rules}
 use Rattle.descriptor_loop.proofs.place.view_of.Goals as goal
 
 pub returns-in-End : goal.returns-in-End

@@ -1,7 +1,6 @@
 -- `descriptor_loop::reading::read_item` meets its contract: the payload of a descriptor lies in the loop.
 use native.Mathlib.Omega.{arith}
 use Rattle.descriptor_loop.proofs.Readings.{payload_there, reading_is_lem}
-use borrow.Author.Rules.{rules}
 use Rattle.descriptor_loop.proofs.reading.read_item.Goals as goal
 
 pub overflow_add-start : goal.overflow_add-start

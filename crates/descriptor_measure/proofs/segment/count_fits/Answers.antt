@@ -1,7 +1,6 @@
 -- `descriptor_measure::segment::count_fits`: a byte fits.
 use native.Mathlib.Omega.{arith}
 use Rattle.descriptor_measure.proofs.Tests.{count_none, count_byte}
-use borrow.Author.Rules.{rules}
 use Rattle.descriptor_measure.proofs.segment.count_fits.Goals as goal
 
 pub returns-in-Program : goal.returns-in-Program

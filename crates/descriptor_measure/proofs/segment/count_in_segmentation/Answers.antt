@@ -1,5 +1,4 @@
 -- `descriptor_measure::segment::count_in_segmentation`, by its mode.
-use borrow.Author.Rules.{rules}
 use Rattle.descriptor_measure.proofs.segment.count_in_segmentation.Goals as goal
 
 pub returns-in-Program : goal.returns-in-Program

@@ -1,6 +1,5 @@
 -- `descriptor_measure::segment::duration_fits`, by cases.
 use Rattle.descriptor_measure.proofs.Tests.{duration_byte}
-use borrow.Author.Rules.{rules}
 use Rattle.descriptor_measure.proofs.segment.duration_fits.Goals as goal
 
 pub returns-in-Ticks : goal.returns-in-Ticks

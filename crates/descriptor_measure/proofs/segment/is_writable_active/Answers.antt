@@ -1,6 +1,5 @@
 -- `descriptor_measure::segment::is_writable_active`, flag by flag.
 use Rattle.descriptor_measure.proofs.Tests.{writable_no_program, writable_no_lasting, writable_no_free, writable_type}
-use borrow.Author.Rules.{rules}
 use Rattle.descriptor_measure.proofs.segment.is_writable_active.Goals as goal
 
 pub returns-then-not-agree : goal.returns-then-not-agree

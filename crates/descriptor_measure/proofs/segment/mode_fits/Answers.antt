@@ -1,7 +1,6 @@
 -- `descriptor_measure::segment::mode_fits`, by cases.
 use native.Mathlib.Omega.{arith}
 use Rattle.descriptor_measure.proofs.Tests.{mode_none, mode_byte}
-use borrow.Author.Rules.{rules}
 use Rattle.descriptor_measure.proofs.segment.mode_fits.Goals as goal
 
 pub returns-in-Program : goal.returns-in-Program

@@ -1,7 +1,6 @@
 -- `descriptor_measure::segment::mode_size`, by cases.
 use Prim.Native.Nat.{◌+◌, ◌*◌, ◌<◌}
 use native.Mathlib.Omega.{arith}
-use borrow.Author.Rules.{rules}
 use Rattle.descriptor_measure.proofs.segment.mode_size.Goals as goal
 
 pub returns-in-Component : goal.returns-in-Component

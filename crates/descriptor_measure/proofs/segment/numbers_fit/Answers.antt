@@ -1,7 +1,6 @@
 -- `descriptor_measure::segment::numbers_fit`, part by part.
 use native.Mathlib.Omega.{arith}
 use Rattle.descriptor_measure.proofs.Tests.{no_mode_fit, no_duration_fit, no_type_fit, sub_fits}
-use borrow.Author.Rules.{rules}
 use Rattle.descriptor_measure.proofs.segment.numbers_fit.Goals as goal
 
 pub returns-then-not-count_fits : goal.returns-then-not-count_fits

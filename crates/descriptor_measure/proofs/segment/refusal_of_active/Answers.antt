@@ -1,5 +1,4 @@
 -- `descriptor_measure::segment::refusal_of_active`, refusal by refusal.
-use Prim.Native.Nat.{ℕ, ◌<◌}
 use mathlib.Core.Path.{◌≡◌}
 use native.Mathlib.Omega.{arith}
 use lib.ListN.{length, take}

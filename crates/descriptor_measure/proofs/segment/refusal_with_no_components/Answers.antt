@@ -1,5 +1,4 @@
 -- `descriptor_measure::segment::refusal_with_no_components`.
-use borrow.Author.Rules.{rules}
 use Rattle.descriptor_measure.proofs.segment.refusal_with_no_components.Goals as goal
 
 pub returns : goal.returns

@@ -1,7 +1,5 @@
 -- `descriptor_measure::segment::refusal_without_components`, cancelled or not.
-use mathlib.Core.Path.{◌≡◌, ap, sym, ◌∙◌}
 use native.Mathlib.Omega.{arith}
-use borrow.Author.Rules.{rules}
 use Rattle.descriptor_measure.proofs.Refusals.{cancel_identifier, cancel_eidr, cancel_writable, refused_all, refused_active}
 use Rattle.descriptor_measure.proofs.segment.refusal_without_components.Goals as goal
 

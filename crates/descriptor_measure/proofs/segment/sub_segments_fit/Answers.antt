@@ -1,6 +1,5 @@
 -- `descriptor_measure::segment::sub_segments_fit`: a byte fits.
 use Rattle.descriptor_measure.proofs.Tests.{sub_over, sub_byte}
-use borrow.Author.Rules.{rules}
 use Rattle.descriptor_measure.proofs.segment.sub_segments_fit.Goals as goal
 
 pub returns-then-wide-gt255 : goal.returns-then-wide-gt255

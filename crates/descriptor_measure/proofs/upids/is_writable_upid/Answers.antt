@@ -2,7 +2,6 @@
 use mathlib.Core.Path.{ap, sym, ◌∙◌}
 use Rattle.descriptor_measure.specs.Writing.{accepts}
 use Rattle.descriptor_measure.proofs.Tests.{upid_eidr, upid_beside, upid_none, upid_empty, upid_five, upid_read_lem}
-use borrow.Author.Rules.{rules}
 use Rattle.descriptor_measure.proofs.upids.is_writable_upid.Goals as goal
 
 pub returns-then-u-eq-UPID_EIDR : goal.returns-then-u-eq-UPID_EIDR

@@ -1,5 +1,4 @@
 -- `descriptor_measure::upids::written_type`, by its two tests.
-use mathlib.Core.Path.{sym}
 use borrow.Author.Tests.{eq-eqb, ne_eqb}
 use Rattle.descriptor_measure.specs.Writing.{written_type}
 use Rattle.descriptor_measure.proofs.upids.written_type.Goals as goal

@@ -1,9 +1,8 @@
 -- `descriptor_writer::envelope::store_envelope`, field by field.
-use Rattle.descriptor_writer.proofs.Storing.{number_then, put_same, put_bytes}
-use mathlib.Core.Path.{refl, ◌∙◌}
+use Rattle.descriptor_writer.proofs.Storing.{number_then, put_bytes}
+use mathlib.Core.Path.{refl}
 use Rattle.table.proofs.Bits.{bytes_all}
 use native.Mathlib.Omega.{arith}
-use borrow.Author.Rules.{rules}
 use Rattle.descriptor_writer.proofs.envelope.store_envelope.Goals as goal
 
 pub returns : goal.returns

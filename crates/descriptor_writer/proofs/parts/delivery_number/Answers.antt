@@ -2,7 +2,6 @@
 use mathlib.Core.Path.{refl, ◌∙◌}
 use native.Mathlib.Omega.{arith}
 use Rattle.descriptor_writer.proofs.Joining.{device_small, delivery_none, delivery_bits}
-use borrow.Author.Rules.{rules}
 use Rattle.descriptor_writer.proofs.parts.delivery_number.Goals as goal
 
 pub returns-in-None : goal.returns-in-None

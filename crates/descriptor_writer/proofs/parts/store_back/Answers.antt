@@ -1,7 +1,6 @@
 -- `descriptor_writer::parts::store_back`, field by field.
 use Rattle.descriptor_writer.proofs.Storing.{number_then}
-use mathlib.Core.Path.{refl, ◌∙◌}
-use borrow.Author.Rules.{rules}
+use mathlib.Core.Path.{◌∙◌}
 use Rattle.descriptor_writer.proofs.parts.store_back.Goals as goal
 
 pub returns : goal.returns

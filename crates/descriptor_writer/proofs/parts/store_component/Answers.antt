@@ -2,7 +2,6 @@
 use mathlib.Core.Path.{refl}
 use Rattle.descriptor_writer.proofs.Storing.{put_joined}
 use Rattle.descriptor_writer.proofs.Joining.{component_bits}
-use borrow.Author.Rules.{rules}
 use Rattle.descriptor_writer.proofs.parts.store_component.Goals as goal
 
 pub returns : goal.returns

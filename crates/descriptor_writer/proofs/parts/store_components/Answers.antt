@@ -1,14 +1,7 @@
 -- `descriptor_writer::parts::store_components`. The loop's invariant: what is stored behind nothing, is the components so far.
-use Prim.Native.Nat.{ℕ, ◌-◌, ◌≤◌}
-use mathlib.Core.List.{List, []}
-use mathlib.Core.Path.{◌≡◌, refl}
+use mathlib.Core.Path.{refl}
 use native.Mathlib.Omega.{arith}
-use lib.ListN.{length, take}
 use borrow.Author.Rules.{rules}
-use Rattle.table.specs.Writing.{contents}
-use Rattle.table.specs.declared.cursor.Cursor.{Cursor}
-use Rattle.descriptor_measure.specs.Private.{components_fields}
-use Rattle.descriptor_writer.specs.Private.{Stores}
 use Rattle.descriptor_writer.proofs.Storing.{put_none, component_next, components_all}
 use Rattle.descriptor_writer.proofs.parts.store_components.Goals as goal
 

@@ -1,7 +1,6 @@
 -- `descriptor_writer::parts::store_duration`, by cases.
 use Rattle.descriptor_writer.proofs.Storing.{put_same, put_none}
-use mathlib.Core.Path.{refl, ◌∙◌}
-use borrow.Author.Rules.{rules}
+use mathlib.Core.Path.{refl}
 use Rattle.descriptor_writer.proofs.parts.store_duration.Goals as goal
 
 pub returns-in-Absent : goal.returns-in-Absent

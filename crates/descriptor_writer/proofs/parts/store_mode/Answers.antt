@@ -1,7 +1,6 @@
 -- `descriptor_writer::parts::store_mode`, by cases.
 use Rattle.descriptor_writer.proofs.Storing.{number_then, put_bytes, put_none}
 use Rattle.descriptor_writer.proofs.Listing.{listed_stores}
-use borrow.Author.Rules.{rules}
 use Rattle.descriptor_writer.proofs.parts.store_mode.Goals as goal
 
 pub returns-in-Program : goal.returns-in-Program

@@ -1,7 +1,5 @@
 -- `descriptor_writer::parts::store_sub_segments`, by cases.
 use Rattle.descriptor_writer.proofs.Storing.{number_then, put_same, put_none, count_then}
-use mathlib.Core.Path.{refl, ◌∙◌}
-use borrow.Author.Rules.{rules}
 use Rattle.descriptor_writer.proofs.parts.store_sub_segments.Goals as goal
 
 pub returns-in-Absent : goal.returns-in-Absent

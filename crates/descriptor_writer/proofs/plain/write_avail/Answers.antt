@@ -2,7 +2,6 @@
 use mathlib.Core.Path.{refl}
 use native.Mathlib.Omega.{arith}
 use Rattle.descriptor_writer.proofs.Plainly.{avail_33, avail_36, avail_writes}
-use borrow.Author.Rules.{rules}
 use Rattle.descriptor_writer.proofs.plain.write_avail.Goals as goal
 
 pub returns-then-not-is_alone : goal.returns-then-not-is_alone

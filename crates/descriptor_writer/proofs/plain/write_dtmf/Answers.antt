@@ -1,8 +1,6 @@
 -- `descriptor_writer::plain::write_dtmf`, answer by answer.
-use mathlib.Core.Path.{refl}
 use native.Mathlib.Omega.{arith}
 use Rattle.descriptor_writer.proofs.Plainly.{dtmf_31, dtmf_32, dtmf_33, dtmf_36, dtmf_writes}
-use borrow.Author.Rules.{rules}
 use Rattle.descriptor_writer.proofs.plain.write_dtmf.Goals as goal
 
 pub returns-then-not-lies_in : goal.returns-then-not-lies_in

@@ -1,6 +1,5 @@
 -- `descriptor_writer::plain::write_reserved`, answer by answer.
 use native.Mathlib.Omega.{arith}
-use borrow.Author.Rules.{rules}
 use Rattle.descriptor_writer.proofs.Plainly.{reserved_31, reserved_33, reserved_34, reserved_36, reserved_writes}
 use Rattle.descriptor_writer.proofs.plain.write_reserved.Goals as goal
 

@@ -1,7 +1,6 @@
 -- `descriptor_writer::plain::write_time`, answer by answer.
 use native.Mathlib.Omega.{arith}
 use Rattle.descriptor_writer.proofs.Plainly.{time_32, time_33, time_36, time_writes}
-use borrow.Author.Rules.{rules}
 use Rattle.descriptor_writer.proofs.plain.write_time.Goals as goal
 
 pub returns-then-x-gt281474976710655 : goal.returns-then-x-gt281474976710655

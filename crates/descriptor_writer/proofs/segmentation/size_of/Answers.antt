@@ -1,6 +1,5 @@
 -- `descriptor_writer::segmentation::size_of`, cancelled or not.
 use Rattle.descriptor_writer.proofs.Segmenting.{size_cancel, size_active, active_short}
-use borrow.Author.Rules.{rules}
 use Rattle.descriptor_writer.proofs.segmentation.size_of.Goals as goal
 
 pub size_of_active-requires : goal.size_of_active-requires

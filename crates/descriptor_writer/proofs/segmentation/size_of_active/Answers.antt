@@ -1,7 +1,6 @@
 -- `descriptor_writer::segmentation::size_of_active`, part by part.
 use native.Mathlib.Omega.{arith}
 use Rattle.descriptor_writer.proofs.Segmenting.{written_len, size_sum, count_small}
-use borrow.Author.Rules.{rules}
 use Rattle.descriptor_writer.proofs.segmentation.size_of_active.Goals as goal
 
 pub overflow_add-result-3 : goal.overflow_add-result-3

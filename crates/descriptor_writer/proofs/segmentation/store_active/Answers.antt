@@ -1,7 +1,6 @@
 -- `descriptor_writer::segmentation::store_active`, part by part.
 use Rattle.descriptor_measure.specs.Writing.{upid_source}
 use Rattle.descriptor_writer.proofs.Segmenting.{active_stores}
-use borrow.Author.Rules.{rules}
 use Rattle.descriptor_writer.proofs.segmentation.store_active.Goals as goal
 
 pub returns : goal.returns

@@ -1,5 +1,4 @@
 -- `descriptor_writer::segmentation::store_segmentation`, cancelled or not.
-use borrow.Author.Rules.{rules}
 use Rattle.descriptor_writer.proofs.Segmenting.{cancel_stores, payload_stores, active_seen}
 use Rattle.descriptor_writer.proofs.segmentation.store_segmentation.Goals as goal
 

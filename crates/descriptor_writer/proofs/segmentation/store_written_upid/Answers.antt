@@ -2,7 +2,6 @@
 use mathlib.Core.Path.{refl, ◌∙◌}
 use native.Mathlib.Omega.{arith}
 use Rattle.descriptor_writer.proofs.Segmenting.{upid_of_eidr, upid_of_view}
-use borrow.Author.Rules.{rules}
 use Rattle.descriptor_writer.proofs.segmentation.store_written_upid.Goals as goal
 
 pub returns-then-u-eq-UPID_EIDR : goal.returns-then-u-eq-UPID_EIDR

@@ -6,7 +6,6 @@ use native.Mathlib.Omega.{arith}
 use lib.ListN.{length, length-replicate}
 use Rattle.descriptor_writer.proofs.Listing.{all_zeros, listed_so}
 use Rattle.descriptor_writer.proofs.Segmenting.{segment_refused, segment_view}
-use borrow.Author.Rules.{rules}
 use Rattle.descriptor_writer.proofs.segmentation.write_segmentation.Goals as goal
 
 pub returns-then-refusal-ne0 : goal.returns-then-refusal-ne0

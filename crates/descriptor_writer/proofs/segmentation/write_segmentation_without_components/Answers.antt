@@ -1,13 +1,11 @@
 -- `descriptor_writer::segmentation::write_segmentation_without_components`, with components or without.
-use Prim.Native.Nat.{◌<◌}
 use mathlib.Core.List.{[]}
-use mathlib.Core.Path.{◌≡◌, sym, ◌∙◌}
+use mathlib.Core.Path.{sym, ◌∙◌}
 use native.Mathlib.Omega.{arith}
 use Rattle.descriptor.specs.Full.{filled}
 use Rattle.descriptor_measure.proofs.Tests.{blanks_length}
 use Rattle.descriptor_writer.proofs.Listing.{none_listed}
 use Rattle.descriptor_writer.proofs.Segmenting.{segment_refused, segment_view, with_blanks}
-use borrow.Author.Rules.{rules}
 use Rattle.descriptor_writer.proofs.segmentation.write_segmentation_without_components.Goals as goal
 
 pub returns-then-count_in_segmentation-gt0 : goal.returns-then-count_in_segmentation-gt0

@@ -1,7 +1,6 @@
 -- `descriptor_writer::segmentation::write_tested_segmentation`, answer by answer.
 use mathlib.Core.Path.{refl, sym}
 use native.Mathlib.Omega.{arith}
-use borrow.Author.Rules.{rules}
 use Rattle.descriptor_writer.proofs.Segmenting.{segment_long, segment_short, segment_writes}
 use Rattle.descriptor_writer.proofs.segmentation.write_tested_segmentation.Goals as goal
 

@@ -1,7 +1,6 @@
 -- `header::header::read_header`: what the numbers name.
 use mathlib.Core.Path.{sym, ◌∙◌}
 use Rattle.header.proofs.Headers.{header_named, header_missing}
-use borrow.Author.Rules.{rules}
 use Rattle.header.proofs.header.read_header.Goals as goal
 
 pub returns-in-Numbers : goal.returns-in-Numbers

@@ -1,5 +1,4 @@
 -- `scte35::adjusting::scte35_chain_adjustments` meets its contract: it is what it calls.
-use borrow.Author.Rules.{rules}
 use Rattle.scte35.proofs.adjusting.scte35_chain_adjustments.Goals as goal
 
 pub returns : goal.returns

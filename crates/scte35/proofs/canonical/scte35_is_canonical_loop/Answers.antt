@@ -1,6 +1,5 @@
 -- `scte35::canonical::scte35_is_canonical_loop` meets its contract.
-use mathlib.Core.Path.{◌≡◌, ap, sym, ◌∙◌}
-use borrow.Author.Rules.{rules}
+use mathlib.Core.Path.{ap, ◌∙◌}
 use Rattle.canonical_form.specs.Descriptor.{canonical_loop}
 use Rattle.scte35.proofs.canonical.scte35_is_canonical_loop.Goals as goal
 

@@ -1,6 +1,5 @@
 -- `scte35::canonical::scte35_is_canonical_section` meets its contract.
-use mathlib.Core.Path.{◌≡◌, ap, sym, ◌∙◌}
-use borrow.Author.Rules.{rules}
+use mathlib.Core.Path.{ap, ◌∙◌}
 use Rattle.canonical_form.specs.Section.{canonical_section}
 use Rattle.scte35.proofs.canonical.scte35_is_canonical_section.Goals as goal
 

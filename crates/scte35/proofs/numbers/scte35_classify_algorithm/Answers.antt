@@ -1,7 +1,6 @@
 -- `scte35::numbers::scte35_classify_algorithm` meets its contract.
-use mathlib.Core.Path.{◌≡◌, ap, sym, ◌∙◌}
+use mathlib.Core.Path.{◌∙◌}
 use denote.Enum.Declared.{tag_of}
-use borrow.Author.Rules.{rules}
 use Rattle.names.specs.declared.algorithm.EncryptionAlgorithm.TheVariants.{Reserved, Private}
 use Rattle.names.specs.Algorithm.{algorithms, algorithm_of}
 use Rattle.names.specs.contracts.algorithm.EncryptionAlgorithm.{the_type}

@@ -1,7 +1,6 @@
 -- `scte35::numbers::scte35_classify_command_type` meets its contract.
-use mathlib.Core.Path.{◌≡◌, ap, sym, ◌∙◌}
+use mathlib.Core.Path.{◌∙◌}
 use denote.Enum.Declared.{tag_of}
-use borrow.Author.Rules.{rules}
 use Rattle.names.specs.declared.command.SpliceCommandType.TheVariants.{Reserved}
 use Rattle.names.specs.Command.{commands, command_type_of}
 use Rattle.names.specs.contracts.command.SpliceCommandType.{the_type}

@@ -1,6 +1,5 @@
 -- `scte35::numbers::scte35_classify_network_indicator` meets its contract.
-use mathlib.Core.Path.{◌≡◌, ap, sym, ◌∙◌}
-use borrow.Author.Rules.{rules}
+use mathlib.Core.Path.{ap, sym, ◌∙◌}
 use Rattle.names.specs.Flags.{network_flag, network_answer}
 use Rattle.scte35.proofs.Names.{of_gives, of_refuses}
 use Rattle.scte35.proofs.numbers.scte35_classify_network_indicator.Goals as goal

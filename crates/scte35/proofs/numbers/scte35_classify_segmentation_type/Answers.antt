@@ -1,7 +1,6 @@
 -- `scte35::numbers::scte35_classify_segmentation_type` meets its contract.
-use mathlib.Core.Path.{◌≡◌, ap, sym, ◌∙◌}
+use mathlib.Core.Path.{◌∙◌}
 use denote.Enum.Declared.{tag_of}
-use borrow.Author.Rules.{rules}
 use Rattle.names.specs.declared.segmentation.SegmentationTypeId.TheVariants.{Reserved}
 use Rattle.names.specs.Segmentation.{segmentations, segmentation_type_of}
 use Rattle.names.specs.contracts.segmentation.SegmentationTypeId.{the_type}

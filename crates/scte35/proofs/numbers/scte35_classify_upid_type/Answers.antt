@@ -1,7 +1,6 @@
 -- `scte35::numbers::scte35_classify_upid_type` meets its contract.
-use mathlib.Core.Path.{◌≡◌, ap, sym, ◌∙◌}
+use mathlib.Core.Path.{◌∙◌}
 use denote.Enum.Declared.{tag_of}
-use borrow.Author.Rules.{rules}
 use Rattle.names.specs.declared.upid.SegmentationUpidType.TheVariants.{Reserved}
 use Rattle.names.specs.Upid.{upid_types, upid_type_of}
 use Rattle.names.specs.contracts.upid.SegmentationUpidType.{the_type}

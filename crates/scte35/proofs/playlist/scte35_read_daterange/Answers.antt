@@ -1,10 +1,9 @@
 -- `scte35::playlist::scte35_read_daterange` meets its contract: it is what it calls.
 use Prim.Native.Nat.{ℕ}
 use mathlib.Core.List.{List}
-use mathlib.Core.Path.{◌≡◌, ap, ◌∙◌}
+use mathlib.Core.Path.{ap, ◌∙◌}
 use Rattle.daterange_line.specs.Reading.{read_of, read_later}
 use Rattle.c_daterange.specs.FlatDaterange.{flat_daterange}
-use borrow.Author.Rules.{rules}
 use Rattle.scte35.proofs.playlist.scte35_read_daterange.Goals as goal
 
 pub rest-requires : goal.rest-requires

@@ -1,7 +1,6 @@
 -- `scte35::relabelling::scte35_relabel` meets its contract: it is what it calls.
-use mathlib.Core.Path.{◌≡◌, ap, ◌∙◌}
+use mathlib.Core.Path.{ap, ◌∙◌}
 use Rattle.c_command_writer.specs.Words.{flat_written}
-use borrow.Author.Rules.{rules}
 use Rattle.scte35.proofs.relabelling.scte35_relabel.Goals as goal
 
 pub returns : goal.returns

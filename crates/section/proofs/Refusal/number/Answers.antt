@@ -1,5 +1,4 @@
 -- `section::Refusal::number`: a row of `number_of` each.
-use borrow.Author.Rules.{rules}
 use Rattle.section.specs.Section.{number_of}
 use Rattle.section.proofs.Refusal.number.Goals as goal
 

@@ -1,6 +1,5 @@
 -- `section::full::beside_command`, by the kind of the command.
 use mathlib.Core.Path.{ap}
-use borrow.Author.Rules.{rules}
 use Rattle.command.specs.Command.{listed_of}
 use Rattle.command.specs.declared.components.ListedCommand.{ListedCommand}
 use Rattle.section.proofs.full.beside_command.Goals as goal

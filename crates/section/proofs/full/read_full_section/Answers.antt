@@ -2,7 +2,6 @@
 use mathlib.Core.Path.{refl, ap, sym, ◌∙◌}
 use Rattle.section.specs.Full.{beside_command}
 use Rattle.section.proofs.FullReadings.{full_is, full_refused}
-use borrow.Author.Rules.{rules}
 use Rattle.section.proofs.full.read_full_section.Goals as goal
 
 pub returns-in-Refused : goal.returns-in-Refused

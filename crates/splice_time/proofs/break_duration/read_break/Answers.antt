@@ -1,6 +1,5 @@
 -- `splice_time::break_duration::read_break` meets its contract.
 use Rattle.splice_time.proofs.Breaks.{no_break}
-use borrow.Author.Rules.{rules}
 use Rattle.splice_time.proofs.break_duration.read_break.Goals as goal
 
 pub returns-then-flagged : goal.returns-then-flagged

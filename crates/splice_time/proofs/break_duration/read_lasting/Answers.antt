@@ -4,7 +4,6 @@ use mathlib.Core.Path.{refl}
 use native.Mathlib.Omega.{arith}
 use lib.ListN.{length}
 use Rattle.splice_time.proofs.Breaks.{no_auto_return, no_duration, a_break}
-use borrow.Author.Rules.{rules}
 use Rattle.splice_time.proofs.break_duration.read_lasting.Goals as goal
 
 pub returns-then-s-at : goal.returns-then-s-at

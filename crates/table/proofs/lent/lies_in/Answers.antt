@@ -4,7 +4,6 @@ use mathlib.Core.Path.{sym}
 use lib.ListN.{length}
 use native.Mathlib.Omega.{arith}
 use borrow.Author.Tests.{lt-leb}
-use borrow.Author.Rules.{rules}
 use Rattle.table.proofs.Lists.{leb_sum}
 use Rattle.table.proofs.lent.lies_in.Goals as goal
 

@@ -1,9 +1,8 @@
 -- `table::numbers::big_endian`: the bytes that are behind stand in v.
-use Prim.Native.Nat.{ℕ, ◌+◌, ◌-◌, ◌*◌, ◌/◌, ◌%◌, ◌^◌, ◌≤◌, ◌<◌}
+use Prim.Native.Nat.{◌+◌, ◌-◌, ◌*◌, ◌%◌, ◌^◌}
 use mathlib.Core.Path.{◌≡◌}
 use native.Mathlib.Nat.{mod-lt}
 use native.Mathlib.Omega.{arith}
-use lib.ListN.{length, get_or}
 use lib.Pow.{pow_pos}
 use Rattle.table.specs.Bits.{bits_of, field}
 use Rattle.table.proofs.Reading.{turn_byte, turn_none}

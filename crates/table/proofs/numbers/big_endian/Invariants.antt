@@ -1,12 +1,7 @@
 -- `table::numbers::big_endian`: the bytes that are behind stand in v.
-use Prim.Native.Nat.{ℕ, ◌+◌, ◌-◌, ◌*◌, ◌/◌, ◌%◌, ◌^◌, ◌≤◌, ◌<◌}
+use Prim.Native.Nat.{◌+◌, ◌-◌, ◌*◌, ◌%◌, ◌^◌, ◌≤◌}
 use mathlib.Core.Path.{◌≡◌}
-use native.Mathlib.Nat.{mod-lt}
-use native.Mathlib.Omega.{arith}
-use lib.ListN.{length, get_or}
-use lib.Pow.{pow_pos}
 use Rattle.table.specs.Bits.{bits_of, field}
-use Rattle.table.proofs.Reading.{turn_byte, turn_none}
 use Rattle.table.proofs.numbers.big_endian.Given as goal
 
 abbrev pub invariant-loop-ahead : goal.invariant-loop-ahead

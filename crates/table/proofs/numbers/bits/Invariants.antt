@@ -1,12 +1,7 @@
 -- `table::numbers::bits`: the bits of the field that are behind stand in v, and the byte goes on where they end.
-use Prim.Native.Nat.{ℕ, ◌+◌, ◌-◌, ◌*◌, ◌/◌, ◌%◌, ◌^◌, ◌≤◌, ◌<◌}
-use mathlib.Core.Path.{◌≡◌, ap}
-use native.Mathlib.Nat.{mod-lt}
-use native.Mathlib.Omega.{arith}
-use lib.ListN.{length, get_or}
-use lib.Pow.{pow_pos}
+use Prim.Native.Nat.{◌+◌, ◌-◌, ◌*◌, ◌%◌, ◌^◌, ◌≤◌, ◌<◌}
+use mathlib.Core.Path.{◌≡◌}
 use Rattle.table.specs.Bits.{bits_of, field}
-use Rattle.table.proofs.Reading.{field_none, mask, turn_bits, turn_none}
 use Rattle.table.proofs.numbers.bits.Given as goal
 
 abbrev pub invariant-loop-ahead : goal.invariant-loop-ahead

@@ -1,7 +1,6 @@
 -- `table::numbers::byte` meets its contract.
 use mathlib.Core.Path.{sym}
 use lib.ListN.{get_or-eq_default}
-use borrow.Author.Rules.{rules}
 use Rattle.table.proofs.numbers.byte.Goals as goal
 
 pub returns-else-at-s : goal.returns-else-at-s

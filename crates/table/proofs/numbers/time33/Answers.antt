@@ -1,8 +1,7 @@
 -- `table::numbers::time33`: five bytes by their powers of 256; where fewer are there, by `bits`.
-use Prim.Native.Nat.{ℕ, ◌+◌, ◌*◌, ◌%◌}
-use mathlib.Core.Path.{◌≡◌, sym, ◌∙◌}
+use Prim.Native.Nat.{ℕ, ◌+◌, ◌*◌}
+use mathlib.Core.Path.{◌∙◌}
 use native.Mathlib.Omega.{arith}
-use borrow.Author.Rules.{rules}
 use Rattle.table.proofs.Reading.{field_exact, field_none, five_bytes}
 use Rattle.table.proofs.numbers.time33.Goals as goal
 

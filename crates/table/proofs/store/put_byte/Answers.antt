@@ -1,11 +1,10 @@
 -- `table::store::put_byte` meets its contract.
 use Prim.Native.Nat.{ℕ, ◌+◌}
-use mathlib.Core.Path.{◌≡◌, ap, sym, ◌∙◌}
+use mathlib.Core.Path.{ap, sym, ◌∙◌}
 use mathlib.Core.List.{List, [], ◌∷◌}
 use native.Mathlib.Omega.{arith}
 use lib.ListN.{set}
 use Rattle.table.proofs.Stores.{stored_none, stored_nil, stored_front}
-use borrow.Author.Rules.{rules}
 use Rattle.table.proofs.store.put_byte.Goals as goal
 
 pub returns-then-at-out : goal.returns-then-at-out

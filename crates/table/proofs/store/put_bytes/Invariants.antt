@@ -1,13 +1,8 @@
 -- `table::store::put_bytes`: the first i bytes stand in the target.
-use Prim.Native.Nat.{ℕ, suc, ◌+◌, ◌-◌, ◌*◌, ◌/◌, ◌%◌, ◌^◌, ◌≤◌, ◌<◌}
-use mathlib.Core.Path.{◌≡◌, ap, sym, ◌∙◌}
-use mathlib.Core.List.{List, [], ◌∷◌, ◌++◌}
-use native.Mathlib.Numerals.{add-one}
-use native.Mathlib.Omega.{arith}
-use lib.ListN.{length, take, get_or}
-use lib.Seq.{length-take-le, take-suc, take_all}
+use Prim.Native.Nat.{◌-◌, ◌≤◌}
+use mathlib.Core.Path.{◌≡◌}
+use lib.ListN.{length, take}
 use Rattle.table.specs.Lent.{stored}
-use Rattle.table.proofs.Stores.{stored_none, stored_nil, stored_behind, length_stored}
 use Rattle.table.proofs.store.put_bytes.Given as goal
 
 abbrev pub invariant-loop-i : goal.invariant-loop-i

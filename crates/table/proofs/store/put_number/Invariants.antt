@@ -1,15 +1,8 @@
 -- `table::store::put_number`: the low bytes stand in the target from at + i on, and `high` is what is left of the number.
-use Prim.Native.Nat.{ℕ, suc, ◌+◌, ◌-◌, ◌*◌, ◌/◌, ◌%◌, ◌^◌, ◌≤◌, ◌<◌}
-use mathlib.Core.Path.{◌≡◌, ap, sym, ◌∙◌}
-use mathlib.Core.List.{List}
-use native.Mathlib.Nat.{div-one}
-use native.Mathlib.Omega.{arith}
-use lib.ListN.{length}
-use lib.Pow.{shr-shr}
+use Prim.Native.Nat.{◌+◌, ◌-◌, ◌*◌, ◌/◌, ◌^◌, ◌≤◌}
+use mathlib.Core.Path.{◌≡◌}
 use Rattle.table.specs.Bits.{big_endian}
 use Rattle.table.specs.Lent.{stored}
-use Rattle.table.proofs.Bits.{length_big_endian}
-use Rattle.table.proofs.Stores.{stored_none, stored_nil, stored_front, length_stored}
 use Rattle.table.proofs.store.put_number.Given as goal
 
 abbrev pub invariant-loop-i : goal.invariant-loop-i

@@ -4,7 +4,6 @@ use mathlib.Core.Path.{sym, ◌∙◌}
 use lib.ListN.{take, drop, get_or-append}
 use lib.Seq.{length-take-le, get_or-take}
 use Rattle.transport.proofs.Gathered.{byte_behind}
-use borrow.Author.Rules.{rules}
 use Rattle.transport.proofs.under.byte_on.Goals as goal
 
 pub returns-then-i-held : goal.returns-then-i-held

@@ -2,7 +2,6 @@
 use mathlib.Core.Path.{sym}
 use native.Mathlib.Omega.{arith}
 use Rattle.transport.proofs.Gathered.{on_none, on_few, on_held, on_many}
-use borrow.Author.Rules.{rules}
 use Rattle.transport.proofs.under.next_on.Goals as goal
 
 pub returns-then-held-eq0 : goal.returns-then-held-eq0

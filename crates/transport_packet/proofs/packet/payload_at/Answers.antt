@@ -2,7 +2,6 @@
 use native.Mathlib.Omega.{arith}
 use borrow.Author.Tests.{eq-eqb, ne_eqb}
 use Rattle.transport_packet.specs.Packet.{payload_at}
-use borrow.Author.Rules.{rules}
 use Rattle.transport_packet.proofs.packet.payload_at.Goals as goal
 
 pub returns-then-packet-eq1 : goal.returns-then-packet-eq1

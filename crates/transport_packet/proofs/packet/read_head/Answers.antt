@@ -5,7 +5,6 @@ use Prim.Native.Nat.{ℕ}
 use lib.ListN.{get_or}
 use Rattle.transport_packet.specs.Packet.{payload_at}
 use Rattle.transport_packet.proofs.Heads.{head_length, head_sync, head_pid, head_scrambled, head_adaptation, head_none, head_goes, head_pointer, head_starts}
-use borrow.Author.Rules.{rules}
 use Rattle.transport_packet.proofs.packet.read_head.Goals as goal
 
 pub returns-then-packet-ne188 : goal.returns-then-packet-ne188

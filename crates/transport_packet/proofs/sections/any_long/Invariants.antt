@@ -1,11 +1,8 @@
 -- `any_long`: the bytes from i on have a section that is too long where those from `at` on have one.
-use mathlib.Core.Path.{◌≡◌, refl, sym, ◌∙◌}
-use native.Mathlib.Omega.{arith}
-use borrow.Author.Rules.{rules}
+use mathlib.Core.Path.{◌≡◌}
 use Prim.Native.Nat.{◌-◌}
 use lib.ListN.{length, drop}
 use Rattle.transport_packet.specs.Sections.{cut}
-use Rattle.transport_packet.proofs.Cuts.{long_nothing, long_long, long_part, long_complete, complete_ends}
 use Rattle.transport_packet.proofs.sections.any_long.Given as goal
 
 abbrev pub invariant-loop-size : goal.invariant-loop-size

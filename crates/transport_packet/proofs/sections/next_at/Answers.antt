@@ -2,7 +2,6 @@
 use native.Mathlib.Omega.{arith}
 use mathlib.Core.Path.{sym, ◌∙◌}
 use Rattle.transport_packet.proofs.Bytes.{next_out, next_few, next_many}
-use borrow.Author.Rules.{rules}
 use Rattle.transport_packet.proofs.sections.next_at.Goals as goal
 
 pub returns-then-s-at : goal.returns-then-s-at

@@ -2,7 +2,6 @@
 use mathlib.Core.Path.{sym}
 use native.Mathlib.Omega.{arith}
 use Rattle.transport_packet.proofs.Next.{none_by, stuffing_by, few_part_by, long_by, complete_by, part_by}
-use borrow.Author.Rules.{rules}
 use Rattle.transport_packet.proofs.sections.next_by.Goals as goal
 
 pub returns-then-count-eq0 : goal.returns-then-count-eq0

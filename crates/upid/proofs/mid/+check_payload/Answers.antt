@@ -1,9 +1,7 @@
 -- `upid::mid::check_payload` meets its contract: each part is read as `read_of` reads it.
-use Prim.Native.Nat.{◌+◌, ◌-◌, ◌≤◌, ◌<◌}
-use mathlib.Core.Path.{◌≡◌, refl, sym, ◌∙◌}
+use mathlib.Core.Path.{refl, sym, ◌∙◌}
 use native.Mathlib.Omega.{arith}
 use native.Mathlib.Nat.{add-zero}
-use lib.ListN.{length, drop}
 use Rattle.upid.proofs.Laws.{read_plain, read_mid}
 use Rattle.upid.proofs.Walks.{read_end, read_head, read_short, inner_length, read_stop, read_on}
 use Rattle.upid.proofs.mid.+check_payload.Goals as goal
@@ -20,12 +18,11 @@ check_payload-inner-requires t c =
     (omega arith, omega arith)
 
 pub walk-preserved : goal.walk-preserved
-walk-preserved t c =
-    (
-      omega arith,
-      c.walk.invariant.1,
-      c.walk.invariant.2 ∙ read_on _ _ _ _ c.walk-test.true c.if-left-lt2.false c.size-n.ensures.0 c.if-present-n.false _ _ c.in-Fine.ensures refl,
-    )
+walk-preserved t c = (
+  omega arith,
+  c.walk.invariant.1,
+  c.walk.invariant.2 ∙ read_on _ _ _ _ c.walk-test.true c.if-left-lt2.false c.size-n.ensures.0 c.if-present-n.false _ _ c.in-Fine.ensures refl,
+)
 
 pub returns-after-walk : goal.returns-after-walk
 returns-after-walk t c = c.walk.invariant.1 ∙ sym (read_end _ _ _ c.walk-test.false) ∙ sym c.walk.invariant.2

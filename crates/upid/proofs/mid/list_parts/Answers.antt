@@ -1,13 +1,12 @@
 -- `upid::mid::list_parts` meets its contract. The loop's invariant: what is left of each open MID was accepted, and the parts that are left of them go
 -- after those of `out`; each level and each part took two bytes of head, so that both have their places. The measure: a turn goes two bytes on or leaves
 -- a MID. In the answers `start`, `loop`, `turn` and `part` are the places where the function, the loop, its turn and a part begin.
-use Prim.Native.Nat.{◌+◌, ◌*◌, ◌-◌, ◌≤◌, ◌<◌}
-use mathlib.Core.Path.{◌≡◌, refl, sym, ap, ◌∙◌}
+use Prim.Native.Nat.{◌+◌, ◌<◌}
+use mathlib.Core.Path.{refl, sym, ap, ◌∙◌}
 use native.Mathlib.Omega.{arith}
-use lib.ListN.{length, get_or, length-set}
-use borrow.Author.Rules.{rules}
-use Rattle.upid.specs.Upid.{list_of, listed}
-use Rattle.upid.specs.Private.{grown, Open, pending}
+use lib.ListN.{length, length-set}
+use Rattle.upid.specs.Upid.{listed}
+use Rattle.upid.specs.Private.{grown}
 use Rattle.upid.specs.declared.PartList.{PartList}
 use Rattle.upid.proofs.Laws.{list_plain, accepted_mid}
 use Rattle.upid.proofs.Lister.{open_first, part_complete, closed, passed, entered, begun, store, ended}
@@ -26,15 +25,14 @@ bounds-ends-0 c = omega arith
 
 pub walk-init : goal.walk-init
 unfolding listed
-walk-init c =
-    (
-      omega arith,
-      omega arith,
-      omega (arith, ap (λ (l : PartList). l.count) c.blank-out.ensures),
-      open_first _ _ refl (accepted_mid _ _ _ c.if-upid_type-ne-UPID_MID.false (c.requires.accepted c.if-upid_type-ne-UPID_MID.false)),
-      begun _ _ _ _ c.if-upid_type-ne-UPID_MID.false c.requires.short refl c.blank-out.ensures,
-      refl,
-    )
+walk-init c = (
+  omega arith,
+  omega arith,
+  omega (arith, ap (λ (l : PartList). l.count) c.blank-out.ensures),
+  open_first _ _ refl (accepted_mid _ _ _ c.if-upid_type-ne-UPID_MID.false (c.requires.accepted c.if-upid_type-ne-UPID_MID.false)),
+  begun _ _ _ _ c.if-upid_type-ne-UPID_MID.false c.requires.short refl c.blank-out.ensures,
+  refl,
+)
 
 pub overflow_sub-open : goal.overflow_sub-open
 overflow_sub-open c = omega arith

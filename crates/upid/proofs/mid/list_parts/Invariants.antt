@@ -1,16 +1,11 @@
 -- `upid::mid::list_parts` meets its contract. The loop's invariant: what is left of each open MID was accepted, and the parts that are left of them go
 -- after those of `out`; each level and each part took two bytes of head, so that both have their places. The measure: a turn goes two bytes on or leaves
 -- a MID. In the answers `start`, `loop`, `turn` and `part` are the places where the function, the loop, its turn and a part begin.
-use Prim.Native.Nat.{◌+◌, ◌*◌, ◌-◌, ◌≤◌, ◌<◌}
-use mathlib.Core.Path.{◌≡◌, refl, sym, ap, ◌∙◌}
-use native.Mathlib.Omega.{arith}
-use lib.ListN.{length, get_or, length-set}
-use borrow.Author.Rules.{rules}
+use Prim.Native.Nat.{◌+◌, ◌*◌, ◌-◌, ◌≤◌}
+use mathlib.Core.Path.{◌≡◌}
+use lib.ListN.{length}
 use Rattle.upid.specs.Upid.{list_of, listed}
 use Rattle.upid.specs.Private.{grown, Open, pending}
-use Rattle.upid.specs.declared.PartList.{PartList}
-use Rattle.upid.proofs.Laws.{list_plain, accepted_mid}
-use Rattle.upid.proofs.Lister.{open_first, part_complete, closed, passed, entered, begun, store, ended}
 use Rattle.upid.proofs.mid.list_parts.Given as goal
 
 abbrev pub invariant-walk : goal.invariant-walk

@@ -1,7 +1,6 @@
 -- `upid::plain::check_plain` meets its contract: each answer takes the definition's tests in turn.
 use borrow.Author.Tests.{eq-eqb, ne_eqb}
 use Rattle.upid.specs.Upid.{plain_of}
-use borrow.Author.Rules.{rules}
 use Rattle.upid.proofs.plain.check_plain.Goals as goal
 
 pub returns-then-upid_type-eq0 : goal.returns-then-upid_type-eq0

@@ -1,5 +1,5 @@
 -- `upid::text::ascii` meets its contract: what is left of the bytes, read on from between two characters, gives what all of them give.
-use Prim.Native.Nat.{ℕ, ◌+◌, ◌-◌, ◌≤◌, ◌<◌}
+use Prim.Native.Nat.{ℕ, ◌+◌, ◌≤◌, ◌<◌}
 use mathlib.Core.Path.{◌≡◌, refl, sym, ◌∙◌}
 use mathlib.Core.List.{List, [], foldl}
 use native.Mathlib.Omega.{arith}

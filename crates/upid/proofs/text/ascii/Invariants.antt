@@ -1,13 +1,9 @@
 -- `upid::text::ascii` meets its contract: what is left of the bytes, read on from between two characters, gives what all of them give.
-use Prim.Native.Nat.{ℕ, ◌+◌, ◌-◌, ◌≤◌, ◌<◌}
-use mathlib.Core.Path.{◌≡◌, refl, sym, ◌∙◌}
-use mathlib.Core.List.{List, [], foldl}
-use native.Mathlib.Omega.{arith}
-use native.Mathlib.Numerals.{add-one}
-use lib.ListN.{length, get_or, drop}
-use lib.Seq.{drop-cons}
-use Rattle.upid.specs.Text.{State, wants, step}
-use Rattle.upid.proofs.Ranges.{hit}
+use Prim.Native.Nat.{◌-◌, ◌≤◌}
+use mathlib.Core.Path.{◌≡◌}
+use mathlib.Core.List.{[], foldl}
+use lib.ListN.{length, drop}
+use Rattle.upid.specs.Text.{wants, step}
 use Rattle.upid.proofs.text.ascii.Given as goal
 
 abbrev pub invariant-loop-i : goal.invariant-loop-i

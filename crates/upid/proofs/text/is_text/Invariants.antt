@@ -1,14 +1,9 @@
 -- `upid::text::is_text` meets its contract: what is left of the bytes, read on from `t`, gives what the done gives.
-use Prim.Native.Nat.{ℕ, ◌+◌, ◌-◌, ◌≤◌, ◌<◌}
-use mathlib.Core.Path.{◌≡◌, sym, ap, ◌∙◌}
-use mathlib.Core.List.{List, [], foldl}
-use native.Mathlib.Omega.{arith}
-use native.Mathlib.Numerals.{add-one}
-use lib.ListN.{length, get_or, drop, drop_of_length-le}
-use lib.Seq.{drop-cons}
-use borrow.Author.Rules.{rules}
-use Rattle.upid.specs.declared.text.Stand.{Stand}
-use Rattle.upid.specs.Text.{State, wants, step, done, text_of}
+use Prim.Native.Nat.{◌-◌, ◌≤◌}
+use mathlib.Core.Path.{◌≡◌}
+use mathlib.Core.List.{[], foldl}
+use lib.ListN.{length, drop}
+use Rattle.upid.specs.Text.{wants, step}
 use Rattle.upid.specs.Private.{meaning}
 use Rattle.upid.proofs.text.is_text.Given as goal
 

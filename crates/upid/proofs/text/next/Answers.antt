@@ -4,7 +4,6 @@ use mathlib.Core.Path.{◌≡◌, ap}
 use mathlib.Core.List.{[], ◌∷◌}
 use native.Mathlib.Omega.{arith}
 use lib.ListN.{replicate}
-use borrow.Author.Rules.{rules}
 use Rattle.upid.specs.Text.{tail, step}
 use Rattle.upid.proofs.Ranges.{hit, over, under}
 use Rattle.upid.proofs.text.next.Goals as goal

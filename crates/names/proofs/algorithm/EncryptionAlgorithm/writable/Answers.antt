@@ -2,7 +2,6 @@
 use mathlib.Core.Path.{ap}
 use denote.Enum.Declared.{tag_of}
 use borrow.Enum.Refused.{opened}
-use borrow.Author.Rules.{rules}
 use Rattle.names.specs.Numbering.{class_in, reserved, private}
 use Rattle.names.specs.Algorithm.{algorithms, algorithm_of, writable_algorithm}
 use Rattle.names.specs.declared.algorithm.EncryptionAlgorithm.TheVariants.{Reserved, Private}

@@ -2,7 +2,6 @@
 use mathlib.Core.Path.{ap}
 use denote.Enum.Declared.{tag_of}
 use borrow.Enum.Refused.{opened}
-use borrow.Author.Rules.{rules}
 use Rattle.names.specs.Numbering.{class_in, reserved}
 use Rattle.names.specs.Command.{commands, command_type_of, writable_command}
 use Rattle.names.specs.declared.command.SpliceCommandType.TheVariants.{Reserved}

@@ -1,5 +1,4 @@
 -- `id` meets its contract: in each arm the value is known.
-use borrow.Author.Rules.{rules}
 use Rattle.names.proofs.segmentation.SegmentationTypeId.id.Goals as goal
 
 pub returns-in-NotIndicated : goal.returns-in-NotIndicated

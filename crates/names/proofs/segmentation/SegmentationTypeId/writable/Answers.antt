@@ -2,7 +2,6 @@
 use mathlib.Core.Path.{ap}
 use denote.Enum.Declared.{tag_of}
 use borrow.Enum.Refused.{opened}
-use borrow.Author.Rules.{rules}
 use Rattle.names.specs.Numbering.{class_in, reserved}
 use Rattle.names.specs.Segmentation.{segmentations, segmentation_type_of, writable_segmentation}
 use Rattle.names.specs.declared.segmentation.SegmentationTypeId.TheVariants.{Reserved}

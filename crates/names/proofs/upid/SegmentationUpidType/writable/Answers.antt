@@ -2,7 +2,6 @@
 use mathlib.Core.Path.{ap}
 use denote.Enum.Declared.{tag_of}
 use borrow.Enum.Refused.{opened}
-use borrow.Author.Rules.{rules}
 use Rattle.names.specs.Numbering.{class_in, reserved}
 use Rattle.names.specs.Upid.{upid_types, upid_type_of, writable_upid_type}
 use Rattle.names.specs.declared.upid.SegmentationUpidType.TheVariants.{Reserved}

@@ -2,7 +2,6 @@
 use mathlib.Core.Path.{sym, ◌∙◌}
 use Rattle.table.specs.Cursor.{place}
 use Rattle.table.proofs.Steppings.{flag_got, flag_lacks}
-use borrow.Author.Rules.{rules}
 use Rattle.table.proofs.cursor.Cursor.flag.Goals as goal
 
 pub returns-in-Got : goal.returns-in-Got

@@ -1,7 +1,6 @@
 -- `table::cursor::Cursor::left` meets its contract.
 use native.Mathlib.Omega.{arith}
 use Rattle.table.proofs.Steppings.{left_is}
-use borrow.Author.Rules.{rules}
 use Rattle.table.proofs.cursor.Cursor.left.Goals as goal
 
 pub returns-then-s-byte : goal.returns-then-s-byte

@@ -1,7 +1,6 @@
 -- `table::cursor::Cursor::pass`: the reading of one run, by how many bytes are left.
 use native.Mathlib.Omega.{arith}
 use Rattle.table.proofs.Steppings.{pass_lacks, pass_got}
-use borrow.Author.Rules.{rules}
 use Rattle.table.proofs.cursor.Cursor.pass.Goals as goal
 
 pub returns-then-s-byte : goal.returns-then-s-byte

@@ -2,7 +2,6 @@
 use mathlib.Core.Path.{sym, ◌∙◌}
 use Rattle.table.specs.Cursor.{place}
 use Rattle.table.proofs.Steppings.{skip_got, skip_lacks}
-use borrow.Author.Rules.{rules}
 use Rattle.table.proofs.cursor.Cursor.skip.Goals as goal
 
 pub returns-in-Got : goal.returns-in-Got

@@ -3,7 +3,6 @@ use Prim.Native.Nat.{◌+◌, ◌*◌, ◌/◌, ◌%◌}
 use mathlib.Core.Path.{◌≡◌}
 use native.Mathlib.Omega.{arith}
 use Rattle.table.proofs.Steppings.{left_is, take_lacks, take_got}
-use borrow.Author.Rules.{rules}
 use Rattle.table.proofs.cursor.Cursor.take.Goals as goal
 
 pub returns-then-s-byte : goal.returns-then-s-byte
