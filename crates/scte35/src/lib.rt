@@ -36,12 +36,12 @@ use upid::read_upid;
 
 pub mod abi;
 pub mod adjusting;
-pub mod board;
 pub mod canonical;
 pub mod numbers;
 pub mod packet;
 pub mod playlist;
 pub mod relabelling;
+pub mod shared_board;
 pub mod writing;
 
 // The bytes from an offset on.

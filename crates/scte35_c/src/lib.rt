@@ -28,12 +28,12 @@ use c_section::sections::FlatSection;
 
 pub mod abi;
 pub mod adjusting;
-pub mod board;
 pub mod canonical;
 pub mod numbers;
 pub mod packet;
 pub mod playlist;
 pub mod relabelling;
+pub mod shared_board;
 pub mod writing;
 
 #[unsafe(no_mangle)]

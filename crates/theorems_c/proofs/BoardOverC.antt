@@ -11,9 +11,9 @@ use Rattle.c_board.specs.Lent.{Lent, flat_reply, emptied, opened, closed}
 use Rattle.c_board.specs.Calls.{lent_by, lent_of, lent_answers, Typed}
 use Rattle.c_board.specs.declared.FlatBoardAnswer.{FlatBoardAnswer}
 use Rattle.c_board.proofs.Theorems.{lent_board_is_two_lists}
-use Rattle.scte35.proofs.board.scte35_board_empty.Reads as board_empty
-use Rattle.scte35.proofs.board.scte35_board_open.Reads as board_open
-use Rattle.scte35.proofs.board.scte35_board_close.Reads as board_close
+use Rattle.scte35.proofs.shared_board.scte35_board_empty.Reads as board_empty
+use Rattle.scte35.proofs.shared_board.scte35_board_open.Reads as board_open
+use Rattle.scte35.proofs.shared_board.scte35_board_close.Reads as board_close
 use Rattle.theorems_c.specs.Boards.{May, LentRun}
 use Rattle.theorems_c.specs.Boards.LentRun.{nothing, then}
 

@@ -17,9 +17,9 @@ use Rattle.channels.proofs.close_break.Reads as close_on_channel
 use Rattle.c_board.proofs.empty_words.Reads as empty_words
 use Rattle.c_board.proofs.open_words.Reads as open_words
 use Rattle.c_board.proofs.close_words.Reads as close_words
-use Rattle.scte35.proofs.board.scte35_board_empty.Reads as scte35_board_empty
-use Rattle.scte35.proofs.board.scte35_board_open.Reads as scte35_board_open
-use Rattle.scte35.proofs.board.scte35_board_close.Reads as scte35_board_close
+use Rattle.scte35.proofs.shared_board.scte35_board_empty.Reads as scte35_board_empty
+use Rattle.scte35.proofs.shared_board.scte35_board_open.Reads as scte35_board_open
+use Rattle.scte35.proofs.shared_board.scte35_board_close.Reads as scte35_board_close
 use Rattle.theorems_fixed.specs.FixedAnswers.{Answers}
 
 -- ---- board

@@ -10,7 +10,7 @@ pub extern "C" fn scte35_board_empty(board: &mut [u64]) -> FlatBoardAnswer
     ensures answer { result ≡ (emptied board.old).answer }
     ensures words { board.new ≡ (emptied board.old).words }
 {
-    scte35::board::scte35_board_empty(board)
+    scte35::shared_board::scte35_board_empty(board)
 }
 
 // The event id for a provider id.
@@ -23,7 +23,7 @@ pub extern "C" fn scte35_board_open(
     ensures answer { result ≡ (opened board.old channel provider_id).answer }
     ensures words { board.new ≡ (opened board.old channel provider_id).words }
 {
-    scte35::board::scte35_board_open(board, channel, provider_id)
+    scte35::shared_board::scte35_board_open(board, channel, provider_id)
 }
 
 // The provider id of an event id.
@@ -36,5 +36,5 @@ pub extern "C" fn scte35_board_close(
     ensures answer { result ≡ (closed board.old channel event_id).answer }
     ensures words { board.new ≡ (closed board.old channel event_id).words }
 {
-    scte35::board::scte35_board_close(board, channel, event_id)
+    scte35::shared_board::scte35_board_close(board, channel, event_id)
 }
