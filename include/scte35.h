@@ -244,7 +244,7 @@ struct scte35_insert_components {
 
 /*
  * The components of an insert.
- * Takes the insert's payload from `at` to the end. Refuses with 11. Stack: 25 KB.
+ * Takes the insert's payload from `at` to the end. Refuses with 11. Stack: 37 KB.
  * Of a section that was read, scte35_read_section_components calls it with the right places.
  */
 struct scte35_insert_components scte35_read_insert_components(const uint8_t *payload, size_t n, size_t at);
@@ -450,7 +450,7 @@ struct scte35_segmentation_components {
 
 /*
  * What stands beside an item: the components and the EIDR of a segmentation descriptor; none of any other.
- * Takes all of the loop, and the item's offset. Refuses as scte35_read_item does. Stack: 28 KB.
+ * Takes all of the loop, and the item's offset. Refuses as scte35_read_item does. Stack: 33 KB.
  */
 struct scte35_segmentation_components scte35_read_segmentation_components(const uint8_t *descriptors, size_t n, size_t offset);
 
@@ -525,7 +525,7 @@ struct scte35_written {
 /*
  * A command's payload.
  * Takes the words of struct scte35_command and of struct scte35_insert_components (of these the places up to the insert's own count are looked at, no other),
- * the bytes that its view names, the target. Refuses with 31 to 33, 36. Stack: 25 KB.
+ * the bytes that its view names, the target. Refuses with 31 to 33, 36. Stack: 31 KB.
  */
 struct scte35_written scte35_write_command_words(const uint64_t *command, size_t command_words, const uint64_t *components, size_t components_words,
                                                  const uint8_t *lent, size_t lent_length, uint8_t *target, size_t target_length);
