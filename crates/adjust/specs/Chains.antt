@@ -1,15 +1,17 @@
 -- What the theorems on chains speak of: an adjustment after another, a chain of any length, and the orders of one.
-use Rattle.std.specs.Prelude.{ℕ, ◌+◌, ◌^◌, ◌<◌, List, [], ◌∷◌}
+use Rattle.std.specs.Prelude.{ℕ, ◌+◌, ◌^◌, ◌<◌, List, [], ◌∷◌, Ok, Err, Result}
 use Rattle.adjust.specs.Adjust.{adjust_of}
-use Rattle.adjust.specs.declared.Moved.{Moved}
+use Rattle.splice_time.specs.declared.SpliceTime.{SpliceTime}
+use Rattle.splice_time.specs.declared.TooLarge.{TooLarge}
+use Rattle.splice_time.specs.Time.{too_large}
 
 -- what was moved, moved again; a refusal stands
-abbrev pub and_then : Moved → ℕ → Moved
-and_then (Moved.Is t) b = adjust_of t b
-and_then Moved.TooLarge b = Moved.TooLarge
+abbrev pub and_then : Result SpliceTime TooLarge → ℕ → Result SpliceTime TooLarge
+and_then (Ok t) b = adjust_of t b
+and_then (Err too_large) b = Err too_large
 
 -- a time through each box of a chain in turn
-abbrev pub through : Moved → List ℕ → Moved
+abbrev pub through : Result SpliceTime TooLarge → List ℕ → Result SpliceTime TooLarge
 through m [] = m
 through m (a ∷ later) = through (and_then m a) later
 

@@ -4,60 +4,46 @@
 ghost use Rattle.std.specs.Prelude.{◌≡◌};
 ghost use Rattle.adjust.specs.Adjust.{adjust_of, chain_of, undo_of};
 
-use splice_time::SpliceTime;
-
-// A time that was moved, or refusal 32.
-#[derive(Clone, Copy)]
-pub enum Moved {
-    Is(SpliceTime),
-    TooLarge,
-}
-
-// An adjustment, or refusal 32.
-#[derive(Clone, Copy)]
-pub enum Adjustment {
-    Is(u64),
-    TooLarge,
-}
+use splice_time::{SpliceTime, TooLarge};
 
 // The time moved by the adjustment; one that is not specified stays as it is.
-pub fn adjust(time: SpliceTime, adjustment: u64) -> Moved
+pub fn adjust(time: SpliceTime, adjustment: u64) -> Result<SpliceTime, TooLarge>
     ensures { result ≡ adjust_of time adjustment }
 {
     if 0x1_FFFF_FFFF < adjustment {
-        return Moved::TooLarge;
+        return Err(TooLarge);
     }
     match time {
-        SpliceTime::Immediate => Moved::Is(SpliceTime::Immediate),
-        SpliceTime::Unspecified => Moved::Is(SpliceTime::Unspecified),
+        SpliceTime::Immediate => Ok(SpliceTime::Immediate),
+        SpliceTime::Unspecified => Ok(SpliceTime::Unspecified),
         SpliceTime::At(ticks) => {
             if 0x1_FFFF_FFFF < ticks {
-                return Moved::TooLarge;
+                return Err(TooLarge);
             }
-            Moved::Is(SpliceTime::At((ticks + adjustment) % 0x2_0000_0000))
+            Ok(SpliceTime::At((ticks + adjustment) % 0x2_0000_0000))
         }
     }
 }
 
 // The one adjustment that does what a and then b do.
-pub fn chain(a: u64, b: u64) -> Adjustment
+pub fn chain(a: u64, b: u64) -> Result<u64, TooLarge>
     ensures { result ≡ chain_of a b }
 {
     if 0x1_FFFF_FFFF < a {
-        return Adjustment::TooLarge;
+        return Err(TooLarge);
     }
     if 0x1_FFFF_FFFF < b {
-        return Adjustment::TooLarge;
+        return Err(TooLarge);
     }
-    Adjustment::Is((a + b) % 0x2_0000_0000)
+    Ok((a + b) % 0x2_0000_0000)
 }
 
 // The adjustment that takes a back.
-pub fn undo(a: u64) -> Adjustment
+pub fn undo(a: u64) -> Result<u64, TooLarge>
     ensures { result ≡ undo_of a }
 {
     if 0x1_FFFF_FFFF < a {
-        return Adjustment::TooLarge;
+        return Err(TooLarge);
     }
-    Adjustment::Is((0x2_0000_0000 - a) % 0x2_0000_0000)
+    Ok((0x2_0000_0000 - a) % 0x2_0000_0000)
 }

@@ -8,19 +8,15 @@ use lib.ListN.{length, get_or, take, drop, length-drop}
 use lib.Seq.{drop-drop}
 use borrow.Author.Tests.{ltb-false, le-leb, eqb-true, not-false}
 use Rattle.command.specs.Command.{command_of}
-use Rattle.command.specs.declared.CommandRead.{CommandRead}
 use Rattle.crc.specs.Crc.{crc_of}
 use Rattle.crc.proofs.Laws.{crc_appended}
 use Rattle.header.specs.Header.{header_read, header_of}
-use Rattle.header.specs.declared.header.HeaderRead.{HeaderRead}
 use Rattle.header.specs.declared.header.SpliceInfoHeader.{SpliceInfoHeader}
 use Rattle.header.proofs.Headers.{header_got}
 use Rattle.names.specs.Algorithm.{algorithm_of}
 use Rattle.names.specs.Command.{command_type_of}
 use Rattle.section.specs.Section.{command_length, command_type, command_bytes, room_after, loop_length, loop_place, frame_in, loop_bytes, frame_of, moved_read, accepted, through, section_of, conditions, None}
-use Rattle.section.specs.declared.FrameRead.{FrameRead}
 use Rattle.section.specs.declared.Section.{Section}
-use Rattle.section.specs.declared.SectionRead.{SectionRead}
 use Rattle.section.proofs.Acceptance.{none_if_accepted}
 use Rattle.table.specs.Bits.{num, bits_of, field}
 use Rattle.table.specs.Lent.{viewed}
@@ -30,24 +26,29 @@ use Rattle.table.proofs.Lists.{zero_one}
 use Rattle.adjust_section.specs.Adjusted.{adjustment_in, body_with, section_with}
 use Rattle.adjust_section.specs.Readings.{header_with, reading_with}
 use Rattle.adjust_section.proofs.Parts.{length_section, front_same, moved_is, back_same, run_kept, byte_kept, first_kept}
+use Rattle.std.proofs.Common.{Ok, Err, Some, Option, Result}
+use Rattle.command.specs.declared.SpliceCommand.{SpliceCommand}
+use Rattle.command.specs.declared.CommandRefusal.{CommandRefusal}
+use Rattle.section.specs.declared.Frame.{Frame}
+use Rattle.section.specs.declared.Refusal.{Refusal}
 
 -- a header's field, in the section
 header_field : (s : List ℕ) (at w : ℕ) → field (bits_of (drop 3 s)) at w ≡ field (bits_of s) (24 + at) w
 header_field s at w = ap (λ (l : List ℕ). num 0 (take w (drop at l))) (sym (bits_from 3 s)) ∙ ap (λ (l : List ℕ). num 0 (take w l)) (drop-drop at 24 (bits_of s))
 
 -- what is accepted, with another header
-abbrev section_in : Section → SectionRead → Section
-section_in x (SectionRead.Is y) = y
-section_in x (SectionRead.Refused r) = x
+abbrev section_in : Section → Result Section Refusal → Section
+section_in x (Ok y) = y
+section_in x (Err r) = x
 
-accepted_with : (p : ℕ) (f : FrameRead) (h : SpliceInfoHeader) (r : CommandRead) (x : Section) → through f (HeaderRead.Header h) r ≡ SectionRead.Is x
-    → (through f (HeaderRead.Header (header_with p h)) r ≡ SectionRead.Is (reading_with p x)) × (x.header ≡ h)
+accepted_with : (p : ℕ) (f : Result Frame Refusal) (h : SpliceInfoHeader) (r : Result SpliceCommand CommandRefusal) (x : Section) → through f (Some h) r ≡ Ok x
+    → (through f (Some (header_with p h)) r ≡ Ok (reading_with p x)) × (x.header ≡ h)
 unfolding accepted
-accepted_with p (FrameRead.Is v) h (CommandRead.Is c) x e =
-    (ap (λ (r : SectionRead). SectionRead.Is (reading_with p (section_in x r))) e, sym (ap (λ (r : SectionRead). (section_in x r).header) e))
-accepted_with p (FrameRead.Is v) h CommandRead.UnknownType x e = zero_one cc
-accepted_with p (FrameRead.Is v) h CommandRead.Malformed x e = zero_one cc
-accepted_with p (FrameRead.Refused n) h r x e = zero_one cc
+accepted_with p (Ok v) h (Ok c) x e =
+    (ap (λ (r : Result Section Refusal). Ok (reading_with p (section_in x r))) e, sym (ap (λ (r : Result Section Refusal). (section_in x r).header) e))
+accepted_with p (Ok v) h (Err CommandRefusal.UnknownType) x e = zero_one cc
+accepted_with p (Ok v) h (Err CommandRefusal.Malformed) x e = zero_one cc
+accepted_with p (Err n) h r x e = zero_one cc
 
 -- the header's fields
 abbrev header_in : List ℕ → SpliceInfoHeader
@@ -62,7 +63,7 @@ header_in t = record {
   splice_command_type = command_type_of (field (bits_of t) 80 8);
 }
 
-header_read_lem : (t : List ℕ) → 11 ≤ length t → header_of t ≡ HeaderRead.Header (header_in t)
+header_read_lem : (t : List ℕ) → 11 ≤ length t → header_of t ≡ Some (header_in t)
 unfolding header_of header_read
 header_read_lem t h = ap header_read (header_got t h)
 
@@ -70,7 +71,7 @@ header_read_lem t h = ap header_read (header_got t h)
 module _ (t : List ℕ) (v₁ v₂ v₃ v₄ v₅ v₆ v₇ v₈ : ℕ) where
   header_is : 11 ≤ length t → v₁ ≡ field (bits_of t) 0 8 → v₂ ≡ field (bits_of t) 8 1 → v₃ ≡ field (bits_of t) 9 6 → v₄ ≡ field (bits_of t) 15 33 → v₅ ≡ field (bits_of t) 48 8
       → v₆ ≡ field (bits_of t) 56 12 → v₇ ≡ field (bits_of t) 68 12 → v₈ ≡ field (bits_of t) 80 8
-      → HeaderRead.Header (record {
+      → Some (record {
         protocol_version = v₁;
         encrypted_packet = eqb v₂ 1;
         encryption_algorithm = algorithm_of v₃;
@@ -82,7 +83,7 @@ module _ (t : List ℕ) (v₁ v₂ v₃ v₄ v₅ v₆ v₇ v₈ : ℕ) where
       }) ≡ header_of t
   header_is h e₁ e₂ e₃ e₄ e₅ e₆ e₇ e₈ = rw (header_read_lem t h, e₁, e₂, e₃, e₄, e₅, e₆, e₇, e₈)
 
-module _ (p : ℕ) (s : List ℕ) (x : Section) (is : section_of s ≡ SectionRead.Is x) (narrow : p < 2 ^ 33) where
+module _ (p : ℕ) (s : List ℕ) (x : Section) (is : section_of s ≡ Ok x) (narrow : p < 2 ^ 33) where
   tests : None (conditions s)
   tests = none_if_accepted s x is
 
@@ -166,7 +167,7 @@ module _ (p : ℕ) (s : List ℕ) (x : Section) (is : section_of s ≡ SectionRe
   unfolding new
   moved = moved_is s long p narrow
 
-  header_moved : header_of (drop 3 new) ≡ HeaderRead.Header (header_with p (header_in (drop 3 s)))
+  header_moved : header_of (drop 3 new) ≡ Some (header_with p (header_in (drop 3 s)))
   header_moved =
       let f : (at w : ℕ) → at + w ≤ 15 → field (bits_of (drop 3 s)) at w ≡ field (bits_of (drop 3 new)) at w =
       λ at w h. header_field s at w ∙ sym (before (24 + at) w (omega arith)) ∙ sym (header_field new at w) in
@@ -180,11 +181,11 @@ module _ (p : ℕ) (s : List ℕ) (x : Section) (is : section_of s ≡ SectionRe
           let o : 24 + (48 + at) ≡ 72 + at = omega arith in
           ap (λ (k : ℕ). field (bits_of s) k w) o ∙ sym (after at w (omega (arith, long))) ∙ ap (λ (k : ℕ). field (bits_of new) k w) (sym o)
 
-  old_through : through (frame_of s) (HeaderRead.Header (header_in (drop 3 s))) (moved_read (command_of (command_type s) (command_bytes s))) ≡ SectionRead.Is x
+  old_through : through (frame_of s) (Some (header_in (drop 3 s))) (moved_read (command_of (command_type s) (command_bytes s))) ≡ Ok x
   unfolding section_of
-  old_through = ap (λ (h : HeaderRead). through (frame_of s) h (moved_read (command_of (command_type s) (command_bytes s)))) (sym (header_read_lem (drop 3 s) (eleven s refl))) ∙ is
+  old_through = ap (λ (h : Option SpliceInfoHeader). through (frame_of s) h (moved_read (command_of (command_type s) (command_bytes s)))) (sym (header_read_lem (drop 3 s) (eleven s refl))) ∙ is
 
-  pub reads_again : section_of (section_with p s) ≡ SectionRead.Is (reading_with p x)
+  pub reads_again : section_of (section_with p s) ≡ Ok (reading_with p x)
   unfolding section_of new
   reads_again =
       rw (frame_same, header_moved, command_type_same, command_bytes_same)

@@ -9,7 +9,6 @@ use lib.Seq.{take_at, length-take-le}
 use borrow.Author.Tests.{lt-ltb, le-ltb, ltb-false, eq-eqb, ne_eqb}
 use Rattle.crc.specs.Crc.{crc_of, crc_bytes_of}
 use Rattle.bit_stores.specs.Written.{answer_of, later_of}
-use Rattle.bit_stores.specs.declared.Written.{Written}
 use Rattle.bit_stores.proofs.Writes.{wrote_answer}
 use Rattle.section.specs.Section.{section_of, number_of}
 use Rattle.section.proofs.Acceptance.{none_holds}
@@ -19,6 +18,7 @@ use Rattle.table.specs.Writing.{made, refused}
 use Rattle.table.proofs.Stores.{stored_fits, stored_append}
 use Rattle.adjust_section.specs.Adjusted.{adjustment_in, with_adjustment, body_with, section_with, adjusted_section}
 use Rattle.adjust_section.proofs.Parts.{behind, length_behind, length_body, length_section}
+use Rattle.std.proofs.Common.{Ok}
 
 -- ---- stores one after the other
 three_stores : (t a b c : List ℕ) → length a ≡ 4 → length b ≡ 5 → 9 + length c ≤ length t → stored (stored (stored t 0 a) 4 b) 9 c ≡ stored t 0 (a ++ (b ++ c))
@@ -72,10 +72,10 @@ sizes s e =
 
 pub wrote_section : (s t u : List ℕ) (a v : ℕ) → number_of (section_of s) ≡ 0 → a < 2 ^ 33 → length s ≤ length t → v ≡ field (bits_of s) 39 33
     → u ≡ stored t 0 (section_with ((v + a) % 8589934592) s)
-    → (Written.Wrote (length s) ≡ answer_of (adjusted_section s a) t) × (u ≡ later_of (adjusted_section s a) t)
+    → (Ok (length s) ≡ answer_of (adjusted_section s a) t) × (u ≡ later_of (adjusted_section s a) t)
 unfolding adjustment_in
 wrote_section s t u a v e h room ev eu =
     let b = section_with ((adjustment_in s + a) % 8589934592) s in
     let l : length b ≡ length s = length_section ((adjustment_in s + a) % 8589934592) s (sizes s e).0 in
     let w = wrote_answer (adjusted_section s a) t b (is_made s a e h) (omega arith) in
-    (ap Written.Wrote (sym l) ∙ w.0, eu ∙ rw ev w.1)
+    (ap Ok (sym l) ∙ w.0, eu ∙ rw ev w.1)

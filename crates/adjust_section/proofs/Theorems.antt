@@ -9,12 +9,10 @@ use lib.Dec.{eqb, ltb}
 use lib.ListN.{length, get_or}
 use borrow.Author.Tests.{eqb-true, eqb-false, ltb-true, not-false}
 use Rattle.adjust.specs.Adjust.{undo_of}
-use Rattle.adjust.specs.declared.Adjustment.{Adjustment}
 use Rattle.adjust.proofs.Laws.{mod_twice, mod_late, undo_is}
 use Rattle.crc.specs.Crc.{crc_of}
 use Rattle.section.specs.Section.{command_type, command_bytes, loop_bytes, section_of, number_of}
 use Rattle.section.specs.declared.Section.{Section}
-use Rattle.section.specs.declared.SectionRead.{SectionRead}
 use Rattle.section.proofs.Acceptance.{is_read, none_holds}
 use Rattle.table.specs.Bits.{pick, bits_of, field}
 use Rattle.table.specs.Writing.{Made, made, refused}
@@ -26,8 +24,9 @@ use Rattle.adjust_section.proofs.Parts.{length_section, front_same, moved_is, by
 use Rattle.adjust_section.proofs.Stored.{is_refused, is_made, sizes}
 use Rattle.adjust_section.proofs.Stays.{reads_again, adjustment_is, loop_stays, command_stays}
 use Rattle.adjust_section.proofs.Back.{moved_twice, moved_to_its_own}
+use Rattle.std.proofs.Common.{Ok}
 
-pub accepted_number : (s : List ℕ) (x : Section) → section_of s ≡ SectionRead.Is x → number_of (section_of s) ≡ 0
+pub accepted_number : (s : List ℕ) (x : Section) → section_of s ≡ Ok x → number_of (section_of s) ≡ 0
 unfolding number_of
 accepted_number s x e = ap number_of e
 
@@ -36,8 +35,8 @@ remainder_fits n = mod-lt n (omega arith)
 
 -- ---- what it makes of a section that is accepted: accepted again; the header the same but for pts_adjustment, which is the remainder of p + a; the command and
 -- the loop's bytes (so the items) the same, and the length
-pub the_reading_but_for_the_adjustment : (s : List ℕ) (x : Section) (a : ℕ) → section_of s ≡ SectionRead.Is x → a < 2 ^ 33 → (new : List ℕ)
-    × (adjusted_section s a ≡ made new) × (section_of new ≡ SectionRead.Is (reading_with ((x.header.pts_adjustment + a) % 8589934592) x))
+pub the_reading_but_for_the_adjustment : (s : List ℕ) (x : Section) (a : ℕ) → section_of s ≡ Ok x → a < 2 ^ 33 → (new : List ℕ)
+    × (adjusted_section s a ≡ made new) × (section_of new ≡ Ok (reading_with ((x.header.pts_adjustment + a) % 8589934592) x))
     × (command_type new ≡ command_type s) × (command_bytes new ≡ command_bytes s) × (loop_bytes new ≡ loop_bytes s) × (length new ≡ length s)
 the_reading_but_for_the_adjustment s x a is h =
     let e : number_of (section_of s) ≡ 0 = accepted_number s x is in
@@ -98,7 +97,7 @@ a_box_behind_a_box_is_one_box s a b byte ha hb = go (eqb (number_of (section_of 
     sum : (t a b : ℕ) → ((t + a) % 8589934592 + b) % 8589934592 ≡ (t + (a + b) % 8589934592) % 8589934592
     sum t a b = mod_twice (t + a) b ∙ ap (λ (n : ℕ). n % 8589934592) (add_assoc t a b) ∙ sym (mod_late t (a + b))
 
-    twice : (x : Section) → section_of s ≡ SectionRead.Is x → (e : number_of (section_of s) ≡ 0) → and_then (adjusted_section s a) b ≡ adjusted_section s ((a + b) % 8589934592)
+    twice : (x : Section) → section_of s ≡ Ok x → (e : number_of (section_of s) ≡ 0) → and_then (adjusted_section s a) b ≡ adjusted_section s ((a + b) % 8589934592)
     twice x is e =
         let q = (adjustment_in s + a) % 8589934592 in
         let k : q < 2 ^ 33 = remainder_fits (adjustment_in s + a) in
@@ -125,7 +124,7 @@ the_boxes_in_either_order s a b byte ha hb =
     a_box_behind_a_box_is_one_box s b a byte hb ha ∙ ap (λ (n : ℕ). adjusted_section s (n % 8589934592)) (add_comm b a) ∙ sym (a_box_behind_a_box_is_one_box s a b byte ha hb)
 
 -- ---- "by 0 .. gives the section back"
-pub by_zero_the_section_itself : (s : List ℕ) (x : Section) → ((k : ℕ) → get_or s k 0 < 256) → section_of s ≡ SectionRead.Is x → adjusted_section s 0 ≡ made s
+pub by_zero_the_section_itself : (s : List ℕ) (x : Section) → ((k : ℕ) → get_or s k 0 < 256) → section_of s ≡ Ok x → adjusted_section s 0 ≡ made s
 by_zero_the_section_itself s x byte is =
     let e : number_of (section_of s) ≡ 0 = accepted_number s x is in
     let z : (adjustment_in s + 0) % 8589934592 ≡ adjustment_in s = ap (λ (n : ℕ). n % 8589934592) (add-zero (adjustment_in s)) ∙ mod-eq_of_lt (own_adjustment_fits s) in
@@ -133,8 +132,8 @@ by_zero_the_section_itself s x byte is =
     is_made s 0 e (omega arith) ∙ ap made (ap (λ (n : ℕ). section_with n s) z ∙ moved_to_its_own s (sizes s e).0 byte right)
 
 -- "and by a and then `undo(a)`"
-pub undone_the_section_itself : (s : List ℕ) (x : Section) (a u : ℕ) → ((k : ℕ) → get_or s k 0 < 256) → section_of s ≡ SectionRead.Is x → a < 2 ^ 33
-    → undo_of a ≡ Adjustment.Is u → and_then (adjusted_section s a) u ≡ made s
+pub undone_the_section_itself : (s : List ℕ) (x : Section) (a u : ℕ) → ((k : ℕ) → get_or s k 0 < 256) → section_of s ≡ Ok x → a < 2 ^ 33
+    → undo_of a ≡ Ok u → and_then (adjusted_section s a) u ≡ made s
 undone_the_section_itself s x a u byte is h e =
     let v : u ≡ (8589934592 - a) % 8589934592 = let f = sym e ∙ undo_is a h in cc in
     let k : u < 2 ^ 33 = rw v (remainder_fits (8589934592 - a)) in

@@ -6,9 +6,8 @@ ghost use Rattle.adjust_section.specs.Adjusted.{section_with, adjusted_section};
 ghost use Rattle.bit_stores.specs.Written.{answer_of, later_of};
 ghost use Rattle.table.specs.Lent.{stored};
 
-use bit_stores::Written;
 use crc::crc32;
-use section::{SectionRead, read_section};
+use section::read_section;
 use table::numbers::{time33, wide};
 use table::store::{put_bytes, put_number};
 
@@ -26,24 +25,24 @@ fn put_section(target: &mut [u8], section: &[u8], p: u64)
 }
 
 // The section with its pts_adjustment moved by `adjustment`, from the target's first byte on; or a refusal: 1 to 11 for the section, 32, 36.
-pub fn adjust_section(section: &[u8], adjustment: u64, target: &mut [u8]) -> Written
+pub fn adjust_section(section: &[u8], adjustment: u64, target: &mut [u8]) -> Result<usize, u8>
     ensures answer { result ≡ answer_of (adjusted_section section.now adjustment) target.old }
     ensures bytes { target.new ≡ later_of (adjusted_section section.now adjustment) target.old }
 {
     match read_section(section) {
-        SectionRead::Is(_) => {}
-        SectionRead::Refused(r) => return Written::Refused(r.number()),
+        Ok(_) => {}
+        Err(r) => return Err(r.number()),
     }
     if 0x1_FFFF_FFFF < adjustment {
-        return Written::Refused(32);
+        return Err(32);
     }
     if target.len() < section.len() {
-        return Written::Refused(36);
+        return Err(36);
     }
     put_section(
         target,
         section,
         (time33(section, 4) + adjustment) % 0x2_0000_0000,
     );
-    Written::Wrote(section.len())
+    Ok(section.len())
 }

@@ -16,10 +16,12 @@ use borrow.Author.Tests.{lt-ltb, ltb-true, ltb-false, ne_eqb, eqb-true, eqb-fals
 use Rattle.table.specs.Bits.{pick}
 use Rattle.table.proofs.Lists.{and_true, zero_one}
 use Rattle.attribute_list.specs.Grammar.{name_byte, quoted_byte, plain_byte, all, Value, quoted, plain, Attribute, valid, text_of}
-use Rattle.attribute_list.specs.Cutting.{span, closed, quoted_of, plain_of, cut_of, value_from, end_of, attribute_in}
+use Rattle.attribute_list.specs.Cutting.{closed, quoted_of, plain_of, cut_of, value_from, end_of, attribute_in, some_cut}
 use Rattle.attribute_list.specs.declared.cutting.Cut.{Cut}
-use Rattle.attribute_list.specs.declared.cutting.Cut.TheVariants.{Nothing, Is}
-use Rattle.attribute_list.proofs.Runs.{span_le, span_take, stops, span_append}
+use Rattle.attribute_list.proofs.Runs.{all_first, stops, prefix_len-all}
+use Rattle.std.proofs.lemmas.List.Sums.{prefix_len-le-length}
+use Rattle.std.specs.List.{prefix_len}
+use Rattle.std.specs.Prelude.{Option, Some, None, IfSome}
 
 -- a byte that is not 0 stands in the text
 pub peel : (s : List ℕ) (i b : ℕ) → get_or s i 0 ≡ b → 0 < b → drop i s ≡ b ∷ drop (i + 1) s
@@ -37,9 +39,9 @@ pub record Complete (s : List ℕ) (n : ℕ) (q : Bool) (k : ℕ) : Type 0 where
   pub named : length (take n s) ≡ n
   pub valued : length (take k (drop (value_from n q) s)) ≡ k
 
-abbrev pub Sound : List ℕ → Cut → Type 0
-Sound s Nothing = Unit {0}
-Sound s (Is n q k) = Complete s n q k
+abbrev pub Sound : List ℕ → Option Cut → Type 0
+Sound s None = Unit {0}
+Sound s (Some c) = Complete s c.name c.quoted c.value
 
 module _ (s : List ℕ) (n : ℕ) (named : all name_byte (take n s) ≡ true) (fits : n ≤ length s) (some : 0 < n) (is : get_or s n 0 ≡ 0x3D) where
   tail : drop n s ≡ 0x3D ∷ drop (n + 1) s
@@ -92,10 +94,10 @@ module _ (s : List ℕ) (n : ℕ) (named : all name_byte (take n s) ≡ true) (f
         }
 
   plain_sound : Sound s (plain_of n (drop (n + 1) s))
-  plain_sound = go (drop (n + 1) s) (span plain_byte (drop (n + 1) s)) refl (span_le plain_byte (drop (n + 1) s)) (span_take plain_byte (drop (n + 1) s)) _ refl
+  plain_sound = go (drop (n + 1) s) (prefix_len plain_byte (drop (n + 1) s)) refl (prefix_len-le-length plain_byte (drop (n + 1) s)) (all_first plain_byte (drop (n + 1) s)) _ refl
     where
       go : (v : List ℕ) (k : ℕ) → v ≡ drop (n + 1) s → k ≤ length v → all plain_byte (take k v) ≡ true → (t : Bool) → not (eqb k 0) && closed (drop k v) ≡ t
-          → Sound s (pick t (Is n false k) Nothing)
+          → Sound s (pick t (some_cut n false k) None)
       go v k d l h false e = tt
       go v k d l h true e =
           let both = and_true (not (eqb k 0)) (closed (drop k v)) e in
@@ -103,10 +105,10 @@ module _ (s : List ℕ) (n : ℕ) (named : all name_byte (take n s) ≡ true) (f
           plain_complete k some_value (rw d at l) (rw d at h) (rw d at both.1)
 
   quoted_sound : get_or (drop (n + 1) s) 0 0 ≡ 0x22 → Sound s (quoted_of n (drop (n + 2) s))
-  quoted_sound o = go (drop (n + 2) s) (span quoted_byte (drop (n + 2) s)) refl (span_le quoted_byte (drop (n + 2) s)) (span_take quoted_byte (drop (n + 2) s)) _ refl
+  quoted_sound o = go (drop (n + 2) s) (prefix_len quoted_byte (drop (n + 2) s)) refl (prefix_len-le-length quoted_byte (drop (n + 2) s)) (all_first quoted_byte (drop (n + 2) s)) _ refl
     where
       go : (w : List ℕ) (k : ℕ) → w ≡ drop (n + 2) s → k ≤ length w → all quoted_byte (take k w) ≡ true → (t : Bool) → eqb (get_or w k 0) 0x22 && closed (drop (k + 1) w) ≡ t
-          → Sound s (pick t (Is n true k) Nothing)
+          → Sound s (pick t (some_cut n true k) None)
       go w k d l h false e = tt
       go w k d l h true e =
           let both = and_true (eqb (get_or w k 0) 0x22) (closed (drop (k + 1) w)) e in
@@ -121,20 +123,20 @@ module _ (s : List ℕ) (n : ℕ) (named : all name_byte (take n s) ≡ true) (f
 
 pub cut_sound : (s : List ℕ) → Sound s (cut_of s)
 unfolding cut_of
-cut_sound s = go (span name_byte s) (span_le name_byte s) (span_take name_byte s) _ refl
+cut_sound s = go (prefix_len name_byte s) (prefix_len-le-length name_byte s) (all_first name_byte s) _ refl
   where
     go : (n : ℕ) → n ≤ length s → all name_byte (take n s) ≡ true → (t : Bool) → not (eqb n 0) && eqb (get_or s n 0) 0x3D ≡ t
-        → Sound s (pick t (pick (eqb (get_or (drop (n + 1) s) 0 0) 0x22) (quoted_of n (drop 1 (drop (n + 1) s))) (plain_of n (drop (n + 1) s))) Nothing)
+        → Sound s (pick t (pick (eqb (get_or (drop (n + 1) s) 0 0) 0x22) (quoted_of n (drop 1 (drop (n + 1) s))) (plain_of n (drop (n + 1) s))) None)
     go n l h false e = tt
     go n l h true e =
         let both = and_true (not (eqb n 0)) (eqb (get_or s n 0) 0x3D) e in
         let some : 0 < n = omega (arith, eqb-false n 0 (not-true (eqb n 0) both.0)) in
         value_sound s n h l some (eqb-true (get_or s n 0) 0x3D both.1) (eqb (get_or (drop (n + 1) s) 0 0) 0x22) refl
 
-pub cut_complete : (s : List ℕ) (n : ℕ) (q : Bool) (k : ℕ) → cut_of s ≡ Is n q k → Complete s n q k
+pub cut_complete : (s : List ℕ) (n : ℕ) (q : Bool) (k : ℕ) → cut_of s ≡ some_cut n q k → Complete s n q k
 cut_complete s n q k e = rw e at (cut_sound s)
 
-pub cut_within : (s : List ℕ) (n : ℕ) (q : Bool) (k : ℕ) → cut_of s ≡ Is n q k → end_of n q k ≤ length s
+pub cut_within : (s : List ℕ) (n : ℕ) (q : Bool) (k : ℕ) → cut_of s ≡ some_cut n q k → end_of n q k ≤ length s
 cut_within s n q k e =
     let w = cut_complete s n q k e in
     omega (arith, ap length w.text, length-append (text_of (attribute_in s n q k)) (drop (end_of n q k) s), w.size)
@@ -156,7 +158,7 @@ closed_stops (x ∷ r) e = rw (eqb-true x 0x2C e)
 
 -- an unquoted value begins with no quote
 no_quote : (b r : List ℕ) → ltb 0 (length b) ≡ true → all plain_byte b ≡ true → eqb (get_or (b ++ r) 0 0) 0x22 ≡ false
-unfolding all plain_byte
+unfolding plain_byte
 no_quote [] r l h = absurd (omega (arith, ltb-true 0 0 l))
 no_quote (x ∷ b) r l h = go (eqb x 0x22) refl (and_true (plain_byte x) (all plain_byte b) h).0
   where
@@ -165,7 +167,7 @@ no_quote (x ∷ b) r l h = go (eqb x 0x22) refl (and_true (plain_byte x) (all pl
     go true e k = zero_one (let z : plain_byte 0x22 ≡ true = rw (eqb-true x 0x22 e) at k in cc)
 
 pub record Exact (a : Attribute) (r : List ℕ) : Type 0 where
-  pub cut : cut_of (text_of a ++ r) ≡ Is (length a.name) (is_quoted a.value) (sized a.value)
+  pub cut : cut_of (text_of a ++ r) ≡ some_cut (length a.name) (is_quoted a.value) (sized a.value)
   pub is : attribute_in (text_of a ++ r) (length a.name) (is_quoted a.value) (sized a.value) ≡ a
   pub rest : drop (end_of (length a.name) (is_quoted a.value) (sized a.value)) (text_of a ++ r) ≡ r
   pub size : length (text_of a) ≡ end_of (length a.name) (is_quoted a.value) (sized a.value)
@@ -181,11 +183,11 @@ module _ (name b r : List ℕ) (some : ltb 0 (length name) ≡ true) (named : al
       let s = name ++ (0x3D ∷ (0x22 ∷ u)) in
       let a : Attribute = record { name = name; value = quoted b } in
       let t : text_of a ++ r ≡ s = simp append_assoc in
-      let n1 : span name_byte s ≡ length name = span_append name_byte name (0x3D ∷ (0x22 ∷ u)) named refl in
+      let n1 : prefix_len name_byte s ≡ length name = prefix_len-all name_byte name (0x3D ∷ (0x22 ∷ u)) named refl in
       let g1 : get_or s (length name) 0 ≡ 0x3D = get_or-append_seam name 0x3D (0x22 ∷ u) 0 in
       let d1 : drop (length name + 1) s ≡ 0x22 ∷ u = drop-append-add name (0x3D ∷ (0x22 ∷ u)) 1 in
       let d2 : drop (length name + 2) s ≡ u = drop-append-add name (0x3D ∷ (0x22 ∷ u)) 2 in
-      let n2 : span quoted_byte u ≡ length b = span_append quoted_byte b (0x22 ∷ r) p refl in
+      let n2 : prefix_len quoted_byte u ≡ length b = prefix_len-all quoted_byte b (0x22 ∷ r) p refl in
       let g2 : get_or u (length b) 0 ≡ 0x22 = get_or-append_seam b 0x22 r 0 in
       let d3 : drop (length b + 1) u ≡ r = drop-append-add b (0x22 ∷ r) 1 in
       let e : length name + 2 + length b + 1 ≡ length name + 2 + (length b + 1) = omega arith in
@@ -203,10 +205,10 @@ module _ (name b r : List ℕ) (some : ltb 0 (length name) ≡ true) (named : al
       let s = name ++ (0x3D ∷ u) in
       let a : Attribute = record { name = name; value = plain b } in
       let t : text_of a ++ r ≡ s = simp append_assoc in
-      let n1 : span name_byte s ≡ length name = span_append name_byte name (0x3D ∷ u) named refl in
+      let n1 : prefix_len name_byte s ≡ length name = prefix_len-all name_byte name (0x3D ∷ u) named refl in
       let g1 : get_or s (length name) 0 ≡ 0x3D = get_or-append_seam name 0x3D u 0 in
       let d1 : drop (length name + 1) s ≡ u = drop-append-add name (0x3D ∷ u) 1 in
-      let n2 : span plain_byte u ≡ length b = span_append plain_byte b r p (closed_stops r c) in
+      let n2 : prefix_len plain_byte u ≡ length b = prefix_len-all plain_byte b r p (closed_stops r c) in
       let g2 : eqb (get_or u 0 0) 0x22 ≡ false = no_quote b r some_value p in
       let d3 : drop (length b) u ≡ r = drop_at b r (length b) refl in
       let k0 : eqb (length b) 0 ≡ false = ne_eqb (length b) 0 (λ e. omega (arith, ltb-true 0 (length b) some_value)) in
@@ -234,7 +236,7 @@ cut_exact a r = go a.name a.value
         plain_exact name b r front.0 front.1 c back.0 back.1
 
 -- a cut at a place of a line lies in the line
-pub within_line : (line : List ℕ) (at : ℕ) (c : Cut) (n : ℕ) (q : Bool) (k : ℕ) → c ≡ cut_of (drop at line) → c ≡ Is n q k → at + end_of n q k ≤ length line
+pub within_line : (line : List ℕ) (at : ℕ) (c : Option Cut) (n : ℕ) (q : Bool) (k : ℕ) → c ≡ cut_of (drop at line) → c ≡ some_cut n q k → at + end_of n q k ≤ length line
 within_line line at c n q k e f =
     let w = cut_within (drop at line) n q k (sym e ∙ f) in
     let some : 0 < end_of n q k = some_bytes q in
@@ -243,3 +245,7 @@ within_line line at c n q k e f =
     some_bytes : (q : Bool) → 0 < end_of n q k
     some_bytes true = omega arith
     some_bytes false = omega arith
+
+pub IfSome-cut_of : (line : List ℕ) (at : ℕ) (o : Option Cut) → o ≡ cut_of (drop at line) → IfSome o (λ c. at + end_of c.name c.quoted c.value ≤ length line)
+IfSome-cut_of line at None e = tt
+IfSome-cut_of line at (Some c) e = within_line line at (Some c) c.name c.quoted c.value e refl

@@ -1,4 +1,3 @@
 pub mod Runs
-pub mod Cuts
 pub mod Completes
 pub mod Lists

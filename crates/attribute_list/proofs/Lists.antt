@@ -4,7 +4,6 @@
 use Prim.Native.Nat.{ℕ, zero, suc, ◌+◌, ◌≤◌, ◌<◌}
 use mathlib.Core.Bool.{Bool, true, false}
 use mathlib.Core.List.{List, [], ◌∷◌, ◌++◌}
-use mathlib.Core.Option.{Option, none, some}
 use mathlib.Core.Path.{◌≡◌, refl, ap, sym, ◌∙◌}
 use native.Mathlib.Omega.{arith}
 use lib.Dec.{eqb, eqb-suc-zero}
@@ -16,8 +15,8 @@ use Rattle.table.proofs.Lists.{and_true, zero_one}
 use Rattle.attribute_list.specs.Grammar.{all, Attribute, valid, value_text, text_of, later_text, list_text, tag, Line}
 use Rattle.attribute_list.specs.Cutting.{same, closed, cut_of, end_of, attribute_in, consed, attributes_by, attributes_from, attributes_of}
 use Rattle.attribute_list.specs.declared.cutting.Cut.{Cut}
-use Rattle.attribute_list.specs.declared.cutting.Cut.TheVariants.{Nothing, Is}
 use Rattle.attribute_list.proofs.Completes.{Complete, Sound, cut_sound, Exact, cut_exact, is_quoted, sized}
+use Rattle.std.specs.Prelude.{Option, Some, None}
 
 pub record Listed (l : List Attribute) (s : List ℕ) : Type 0 where
   pub some : 0 < length l
@@ -42,7 +41,7 @@ no_bytes (x ∷ r) e = absurd (omega arith)
 -- ---- what is found is by the grammar
 
 last_sound : (s : List ℕ) (n : ℕ) (q : Bool) (k : ℕ) → Complete s n q k → eqb (length (drop (end_of n q k) s)) 0 ≡ true → Listed (attribute_in s n q k ∷ []) s
-unfolding all later_text list_text
+unfolding later_text list_text
 last_sound s n q k w e =
     record {
       some = omega arith;
@@ -52,7 +51,7 @@ last_sound s n q k w e =
 
 more_sound : (s : List ℕ) (n : ℕ) (q : Bool) (k : ℕ) → Complete s n q k → eqb (length (drop (end_of n q k) s)) 0 ≡ false
     → (l : List Attribute) → Listed l (drop (end_of n q k + 1) s) → Listed (attribute_in s n q k ∷ l) s
-unfolding all list_text
+unfolding list_text
 more_sound s n q k w e l h =
     let r = drop (end_of n q k) s in
     let t : r ≡ 0x2C ∷ drop (end_of n q k + 1) s = comma r w.shut e ∙ ap (λ (x : List ℕ). 0x2C ∷ x) (drop-drop 1 (end_of n q k) s) in
@@ -63,23 +62,23 @@ more_sound s n q k w e l h =
     }
 
 consed_some : (a : Attribute) (o : Option (List Attribute)) (l : List Attribute) (P : List Attribute → Type 0)
-    → ((m : List Attribute) → o ≡ some m → P (a ∷ m)) → consed a o ≡ some l → P l
-consed_some a none l P h e = zero_one cc
-consed_some a (some m) l P h e = let f : a ∷ m ≡ l = cc in rw (← f) (h m refl)
+    → ((m : List Attribute) → o ≡ Some m → P (a ∷ m)) → consed a o ≡ Some l → P l
+consed_some a None l P h e = zero_one cc
+consed_some a (Some m) l P h e = let f : a ∷ m ≡ l = cc in rw (← f) (h m refl)
 
-by_sound : (n : ℕ) (s : List ℕ) (c : Cut) → Sound s c → ((t : List ℕ) (m : List Attribute) → attributes_from n t ≡ some m → Listed m t)
-    → (l : List Attribute) → attributes_by (attributes_from n) s c ≡ some l → Listed l s
-by_sound n s Nothing w h l e = zero_one cc
-by_sound n s (Is m q k) w h l e = go (eqb (length (drop (end_of m q k) s)) 0) refl e
+by_sound : (n : ℕ) (s : List ℕ) (c : Option Cut) → Sound s c → ((t : List ℕ) (m : List Attribute) → attributes_from n t ≡ Some m → Listed m t)
+    → (l : List Attribute) → attributes_by (attributes_from n) s c ≡ Some l → Listed l s
+by_sound n s None w h l e = zero_one cc
+by_sound n s (Some c) w h l e = go (eqb (length (drop (end_of c.name c.quoted c.value) s)) 0) refl e
   where
-    go : (t : Bool) → eqb (length (drop (end_of m q k) s)) 0 ≡ t
-        → pick t (some (attribute_in s m q k ∷ [])) (consed (attribute_in s m q k) (attributes_from n (drop (end_of m q k + 1) s))) ≡ some l → Listed l s
-    go true z f = let g : attribute_in s m q k ∷ [] ≡ l = cc in rw (← g) (last_sound s m q k w z)
+    go : (t : Bool) → eqb (length (drop (end_of c.name c.quoted c.value) s)) 0 ≡ t
+        → pick t (Some (attribute_in s c.name c.quoted c.value ∷ [])) (consed (attribute_in s c.name c.quoted c.value) (attributes_from n (drop (end_of c.name c.quoted c.value + 1) s))) ≡ Some l → Listed l s
+    go true z f = let g : attribute_in s c.name c.quoted c.value ∷ [] ≡ l = cc in rw (← g) (last_sound s c.name c.quoted c.value w z)
     go false z f =
-        consed_some (attribute_in s m q k) (attributes_from n (drop (end_of m q k + 1) s)) l (λ (x : List Attribute). Listed x s)
-        (λ x i. more_sound s m q k w z x (h (drop (end_of m q k + 1) s) x i)) f
+        consed_some (attribute_in s c.name c.quoted c.value) (attributes_from n (drop (end_of c.name c.quoted c.value + 1) s)) l (λ (x : List Attribute). Listed x s)
+        (λ x i. more_sound s c.name c.quoted c.value w z x (h (drop (end_of c.name c.quoted c.value + 1) s) x i)) f
 
-pub attributes_sound : (n : ℕ) (s : List ℕ) (l : List Attribute) → attributes_from n s ≡ some l → Listed l s
+pub attributes_sound : (n : ℕ) (s : List ℕ) (l : List Attribute) → attributes_from n s ≡ Some l → Listed l s
 unfolding attributes_from
 attributes_sound zero s l e = zero_one cc
 attributes_sound (suc n) s l e = by_sound n s (cut_of s) (cut_sound s) (attributes_sound n) l e
@@ -87,15 +86,15 @@ attributes_sound (suc n) s l e = by_sound n s (cut_of s) (cut_sound s) (attribut
 -- ---- a list by the grammar is found
 
 pub attributes_step : (a : Attribute) (r : List ℕ) (n : ℕ) → Exact a r
-    → attributes_from (suc n) (text_of a ++ r) ≡ pick (eqb (length r) 0) (some (a ∷ [])) (consed a (attributes_from n (drop 1 r)))
+    → attributes_from (suc n) (text_of a ++ r) ≡ pick (eqb (length r) 0) (Some (a ∷ [])) (consed a (attributes_from n (drop 1 r)))
 unfolding attributes_from
 attributes_step a r n x =
     let e = end_of (length a.name) (is_quoted a.value) (sized a.value) in
     let d : drop (e + 1) (text_of a ++ r) ≡ drop 1 r = sym (drop-drop 1 e (text_of a ++ r)) ∙ ap (drop 1) x.rest in
     rw (x.cut, d, x.rest, x.is)
 
-pub attributes_exact : (l : List Attribute) (n : ℕ) → length l ≤ n → 0 < length l → all valid l ≡ true → attributes_from n (list_text l) ≡ some l
-unfolding all later_text list_text
+pub attributes_exact : (l : List Attribute) (n : ℕ) → length l ≤ n → 0 < length l → all valid l ≡ true → attributes_from n (list_text l) ≡ Some l
+unfolding later_text list_text
 attributes_exact [] n h s v = absurd (omega arith)
 attributes_exact (a ∷ l) zero h s v = absurd (omega arith)
 attributes_exact (a ∷ []) (suc n) h s v = attributes_step a [] n (cut_exact a [] (and_true (valid a) true v).0 refl)
@@ -118,11 +117,11 @@ same_true (x ∷ a) (y ∷ b) e =
     let g : a ≡ b = same_true a b both.1 in
     cc
 
-pub line_sound : (line : List ℕ) (l : List Attribute) → attributes_of line ≡ some l → Line l line
+pub line_sound : (line : List ℕ) (l : List Attribute) → attributes_of line ≡ Some l → Line l line
 unfolding attributes_of
 line_sound line l e = go (same (take 17 line) tag) refl e
   where
-    go : (t : Bool) → same (take 17 line) tag ≡ t → pick t (attributes_from (length line) (drop 17 line)) none ≡ some l → Line l line
+    go : (t : Bool) → same (take 17 line) tag ≡ t → pick t (attributes_from (length line) (drop 17 line)) None ≡ Some l → Line l line
     go false z f = zero_one cc
     go true z f =
         let h = attributes_sound (length line) (drop 17 line) l f in
@@ -144,7 +143,7 @@ unfolding list_text
 list_length [] = omega arith
 list_length (a ∷ l) = omega (arith, length-append (text_of a) (later_text l), later_length l, text_some a)
 
-pub line_exact : (line : List ℕ) (l : List Attribute) → Line l line → attributes_of line ≡ some l
+pub line_exact : (line : List ℕ) (l : List Attribute) → Line l line → attributes_of line ≡ Some l
 unfolding attributes_of same
 line_exact line l h =
     rw (← h.text)

@@ -1,99 +1,70 @@
 // Bytes by the grammar's sets, and runs of them.
-ghost use Rattle.std.specs.Prelude.{◌≡◌, ◌+◌, drop};
+ghost use Rattle.std.specs.Prelude.{◌≡◌, ℕ, Bool};
+ghost use Rattle.std.specs.List.{prefix_len};
 ghost use Rattle.attribute_list.specs.Grammar.{name_byte, quoted_byte, plain_byte};
-ghost use Rattle.attribute_list.specs.Cutting.{span, test_of, same};
+ghost use Rattle.attribute_list.specs.Cutting.{same};
+
+// A set of bytes.
+pub trait Class {
+    ghost test: { ℕ → Bool };
+
+    fn has(b: u8) -> bool
+        ensures { result ≡ test b };
+}
 
 // The bytes of a name, between quotes, and of an unquoted value.
-#[derive(Clone, Copy)]
-pub enum Class {
-    Name,
-    Quoted,
-    Plain,
-}
+pub struct Name;
 
-fn in_name(b: u8) -> bool
-    ensures { result ≡ name_byte b }
-{
-    if 0x41 <= b {
-        return b <= 0x5A;
-    }
-    if 0x30 <= b {
-        return b <= 0x39;
-    }
-    b == 0x2D
-}
+pub struct Quoted;
 
-fn in_quotes(b: u8) -> bool
-    ensures { result ≡ quoted_byte b }
-{
-    if b == 0x22 {
-        return false;
-    }
-    if b == 0x0D {
-        return false;
-    }
-    b != 0x0A
-}
+pub struct Plain;
 
-fn in_plain(b: u8) -> bool
-    ensures { result ≡ plain_byte b }
-{
-    // Most bytes by one test.
-    if 0x2D <= b {
-        return true;
-    }
-    if b == 0x22 {
-        return false;
-    }
-    if b == 0x2C {
-        return false;
-    }
-    if b == 0x20 {
-        return false;
-    }
-    if b < 0x09 {
-        return true;
-    }
-    0x0D < b
-}
+impl Class for Name {
+    ghost test = { name_byte };
 
-fn belongs(class: Class, b: u8) -> bool
-    ensures { result ≡ test_of «class» b }
-{
-    match class {
-        Class::Name => in_name(b),
-        Class::Quoted => in_quotes(b),
-        Class::Plain => in_plain(b),
-    }
-}
-
-// Where the run of such bytes ends that begins at a place.
-pub fn past(line: &[u8], at: usize, class: Class) -> usize
-    ensures { result ≡ at + span (test_of «class») (drop at line.now) }
-{
-    let mut i = at;
-    while i < line.len() {
-        if !belongs(class, line[i]) {
-            return i;
+    #[tactic(auto, unfolding(crate::specs::Grammar::name_byte))]
+    fn has(b: u8) -> bool {
+        // Letters by two tests: one `matches!` makes all five of each byte.
+        if b'A' <= b {
+            b <= b'Z'
+        } else {
+            matches!(b, b'0'..=b'9' | b'-')
         }
-        i += 1;
     }
-    i
+}
+
+impl Class for Quoted {
+    ghost test = { quoted_byte };
+
+    #[tactic(auto, unfolding(crate::specs::Grammar::quoted_byte))]
+    fn has(b: u8) -> bool {
+        !matches!(b, b'"' | b'\r' | b'\n')
+    }
+}
+
+impl Class for Plain {
+    ghost test = { plain_byte };
+
+    #[tactic(auto, unfolding(crate::specs::Grammar::plain_byte))]
+    fn has(b: u8) -> bool {
+        // Most bytes by one test.
+        if 0x2D <= b {
+            return true;
+        }
+        !matches!(b, b'"' | b',' | b' ' | 0x09..=0x0D)
+    }
+}
+
+// How many such bytes stand first.
+pub fn run<C: Class>(bytes: &[u8]) -> usize
+    ensures { result ≡ prefix_len C.test bytes.now }
+{
+    bytes.iter().take_while(|b| C::has(**b)).count()
 }
 
 // Whether two runs are the same bytes.
 pub fn same_bytes(a: &[u8], b: &[u8]) -> bool
     ensures { result ≡ same a.now b.now }
 {
-    if a.len() != b.len() {
-        return false;
-    }
-    let mut i = 0;
-    while i < a.len() {
-        if a[i] != b[i] {
-            return false;
-        }
-        i += 1;
-    }
-    true
+    a == b
 }

@@ -1,81 +1,88 @@
 // The attribute at a place of a line.
-ghost use Rattle.std.specs.Prelude.{◌≡◌, drop, get_or};
-ghost use Rattle.attribute_list.specs.Cutting.{closed, quoted_of, plain_of, cut_of};
+ghost use Rattle.std.specs.Prelude.{◌≡◌, ◌+◌, ◌≤◌, IfSome, drop, get_or, length};
+ghost use Rattle.attribute_list.specs.Cutting.{closed, quoted_of, plain_of, cut_of, end_of};
 
-use crate::bytes::{Class, past};
+use crate::bytes::{Name, Plain, Quoted, run};
 
 // The lengths of an attribute's name and value, and whether the value is quoted.
 #[derive(Clone, Copy)]
-pub enum Cut {
-    Nothing,
-    Is(usize, bool, usize),
+pub struct Cut {
+    pub name: usize,
+    pub quoted: bool,
+    pub value: usize,
 }
 
 // The byte at a place, 0 past the end.
-fn byte_at(line: &[u8], at: usize) -> u8
-    ensures { result ≡ get_or line.now at 0 }
+fn byte_at(text: &[u8], at: usize) -> u8
+    ensures { result ≡ get_or text.now at 0 }
 {
-    if at < line.len() { line[at] } else { 0 }
+    *text.get(at).unwrap_or(&0)
+}
+
+// What stands from a place on: nothing where it lies past the end.
+fn from(text: &[u8], at: usize) -> &[u8]
+    ensures { result.now ≡ drop at text.now }
+{
+    text.get(at..).unwrap_or(&[])
 }
 
 // Whether nothing or a comma stands at a place.
-fn is_closed(line: &[u8], at: usize) -> bool
-    ensures { result ≡ closed (drop at line.now) }
+fn is_closed(text: &[u8], at: usize) -> bool
+    ensures { result ≡ closed (drop at text.now) }
 {
-    if line.len() <= at {
-        return true;
-    }
-    line[at] == 0x2C
+    matches!(text.get(at), None | Some(b','))
 }
 
 // A value behind its opening quote.
-fn quoted_at(line: &[u8], at: usize, name: usize) -> Cut
-    ensures { result ≡ quoted_of name (drop at line.now) }
+fn quoted(text: &[u8], name: usize) -> Option<Cut>
+    ensures { result ≡ quoted_of name text.now }
 {
-    let end = past(line, at, Class::Quoted);
-    if line.len() <= end {
-        return Cut::Nothing;
+    let value = run::<Quoted>(text);
+    if byte_at(text, value) != b'"' || !is_closed(text, value + 1) {
+        return None;
     }
-    if line[end] != 0x22 {
-        return Cut::Nothing;
-    }
-    if !is_closed(line, end + 1) {
-        return Cut::Nothing;
-    }
-    Cut::Is(name, true, end - at)
+    Some(Cut {
+        name,
+        quoted: true,
+        value,
+    })
 }
 
-fn plain_at(line: &[u8], at: usize, name: usize) -> Cut
-    ensures { result ≡ plain_of name (drop at line.now) }
+fn plain(text: &[u8], name: usize) -> Option<Cut>
+    ensures { result ≡ plain_of name text.now }
 {
-    let end = past(line, at, Class::Plain);
-    if end <= at {
-        return Cut::Nothing;
+    let value = run::<Plain>(text);
+    if value == 0 || !is_closed(text, value) {
+        return None;
     }
-    if !is_closed(line, end) {
-        return Cut::Nothing;
+    Some(Cut {
+        name,
+        quoted: false,
+        value,
+    })
+}
+
+// The attribute that a text begins with.
+#[tactic(auto, unfolding(crate::specs::Cutting::cut_of))]
+fn cut_off(text: &[u8]) -> Option<Cut>
+    ensures { result ≡ cut_of text.now }
+{
+    let name = run::<Name>(text);
+    if name == 0 || byte_at(text, name) != b'=' {
+        return None;
     }
-    Cut::Is(name, false, end - at)
+    let value = from(text, name + 1);
+    if byte_at(value, 0) == b'"' {
+        quoted(from(value, 1), name)
+    } else {
+        plain(value, name)
+    }
 }
 
 // The attribute at a place; nothing where none stands there, or something else than a comma behind it.
-pub fn cut_at(line: &[u8], at: usize) -> Cut
-    ensures { result ≡ cut_of (drop at line.now) }
+pub fn cut_at(line: &[u8], at: usize) -> Option<Cut>
+    ensures cut { result ≡ cut_of (drop at line.now) }
+    ensures within { IfSome result (λ c. at + end_of c.name c.quoted c.value ≤ length line.now) }
 {
-    let equals = past(line, at, Class::Name);
-    if equals <= at {
-        return Cut::Nothing;
-    }
-    if line.len() <= equals {
-        return Cut::Nothing;
-    }
-    if line[equals] != 0x3D {
-        return Cut::Nothing;
-    }
-    let name = equals - at;
-    let value = equals + 1;
-    if byte_at(line, value) == 0x22 {
-        return quoted_at(line, value + 1, name);
-    }
-    plain_at(line, value, name)
+    cut_off(from(line, at))
 }

@@ -40,21 +40,12 @@ module _ (b j n x : ℕ) (byte : b < 256) (room : j + n ≤ 8) (narrow : x < 2 ^
       let z : 8 - j ≡ n + k = omega arith in
       mixed_lt b j n k x byte (omega arith) narrow _ (ap (λ (m : ℕ). b / 2 ^ m * 2 ^ m + (x * 2 ^ k + b % 2 ^ k)) z)
 
--- ---- the tests of room, and what the loop knows of its place
-pub room_is : (byte bit w len : ℕ) → byte ≤ len → bit / 8 ≤ len - byte → w / 8 + (w % 8 + bit % 8 + 7) / 8 ≤ len - (byte + bit / 8) → byte * 8 + bit + w ≤ len * 8
-room_is byte bit w len h k l = omega arith
-
-pub run_room : (byte bit n len : ℕ) → byte ≤ len → n ≤ len - byte → bit / 8 + (bit % 8 + 7) / 8 ≤ len - byte - n → byte * 8 + bit + n * 8 ≤ len * 8
-run_room byte bit n len h k l = omega arith
-
+-- ---- what the loop knows of its place
 pub inside_is : (q j p w ahead len : ℕ) → ahead ≤ w → 0 < ahead → q * 8 + j ≡ p + (w - ahead) → p + w ≤ len * 8 → q < len
 inside_is q j p w ahead len h k e l = omega arith
 
 pub turned : (p w ahead n len : ℕ) → n ≤ ahead → ahead ≤ w → p + w ≤ len → p + (w - ahead) + n ≤ len
 turned p w ahead n len h k l = omega arith
-
-pub next_fits : (q j n len most : ℕ) → q < len → len ≤ most → j + n ≤ 8 → q + (j + n) / 8 ≤ most
-next_fits q j n len most h k l = omega arith
 
 pub ends_at : (q j p w : ℕ) → j < 8 → q * 8 + j ≡ p + w → (q ≡ (p + w) / 8) × (j ≡ (p + w) % 8)
 ends_at q j p w h e = (omega arith, omega arith)

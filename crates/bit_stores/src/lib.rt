@@ -1,4 +1,5 @@
-// The writer's pen: fields stored at any bit of a lent target, and what a writer answers.
+// The writer's pen: fields stored at any bit of a lent target. What a writer answers is how many bytes it wrote, or the number of its refusal: a number and no
+// enum, since the definitions count a refusal's conditions (`first` of section, `refusal_in` and `answer_of` of bit_stores) and theorems speak of 31 to 36.
 #![tactic(auto)]
 
 ghost use Rattle.std.specs.Prelude.{◌≡◌, ◌+◌, ◌-◌, ◌*◌, ◌/◌, ◌%◌, ◌^◌, ◌<◌, ◌≤◌};
@@ -10,19 +11,6 @@ ghost use Rattle.bit_stores.specs.Pen.{Pens};
 use table::cursor::Cursor;
 use table::numbers::wide;
 use table::store::{put_bytes, put_number};
-
-// What a writer answers: how many bytes it wrote, from the target's first on, or the number of its refusal.
-#[derive(Clone, Copy)]
-pub enum Written {
-    Wrote(usize),
-    Refused(u8),
-}
-
-fn least(a: usize, b: usize) -> usize
-    ensures { (result ≤ a) × (result ≤ b) × (0 < a → 0 < b → 0 < result) }
-{
-    if a < b { a } else { b }
-}
 
 // n bits of a number that has k more behind them.
 fn digits(v: u64, k: usize, n: usize) -> u64
@@ -59,7 +47,7 @@ fn put_across(out: &mut [u8], c: Cursor, w: usize, v: u64) -> Cursor
     if out.len() - byte < bit / 8 {
         return c;
     }
-    // The byte that is next, its bits that are behind, and those of the field that are ahead.
+    // The byte that is next, its bits that are behind, and those of the field that are ahead: a turn goes on by as many as it stores, so it counts no index.
     let mut at = byte + bit / 8;
     let mut behind = bit % 8;
     let mut ahead = w;
@@ -67,7 +55,7 @@ fn put_across(out: &mut [u8], c: Cursor, w: usize, v: u64) -> Cursor
         return c;
     }
     while 0 < ahead {
-        let n = least(ahead, 8 - behind);
+        let n = ahead.min(8 - behind);
         out[at] = with_bits(out[at], behind, n, digits(v, ahead - n, n));
         ahead -= n;
         at += (behind + n) / 8;
@@ -114,10 +102,8 @@ fn put_shifted(out: &mut [u8], c: Cursor, src: &[u8]) -> Cursor
     ensures { Pens out.old c (bits_of src.now) out.new result }
 {
     let mut next = c;
-    let mut i = 0;
-    while i < src.len() {
-        next = put_bits(out, next, 8, wide(src[i]));
-        i += 1;
+    for &b in src {
+        next = put_bits(out, next, 8, wide(b));
     }
     next
 }

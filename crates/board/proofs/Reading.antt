@@ -1,13 +1,11 @@
 -- A board and the list that it reads as answer the same, and read as one another after every call.
 use Rattle.std.proofs.Common.{◌≡◌, ℕ, zero, suc, ◌<◌, Bool, true, false, leb, List, [], ◌∷◌, ◌++◌, length, get_or, set, sym, refl, ◌∙◌, arith, length-append, length-set, leb-false}
-use Rattle.board.specs.Breaks.{Break, Breaks, no_breaks, under, is_open, without, free_from, after, opened, closed}
-use Rattle.board.specs.Board.{blank_place, taken_by, empty_board, is_free, holds, before, breaks_of, open_of, close_of}
+use Rattle.board.specs.Breaks.{Answer, Break, Breaks, no_breaks, under, is_open, without, free_from, after, opened, closed}
+use Rattle.board.specs.Board.{Step, blank_place, taken_by, empty_board, is_free, holds, before, breaks_of, open_of, close_of}
 use Rattle.board.specs.Runs.{Call, step_of, told_of}
 use Rattle.board.specs.Runs.Call.{opening, closing}
-use Rattle.board.specs.declared.Answer.{Answer}
 use Rattle.board.specs.declared.Place.{Place}
 use Rattle.board.specs.declared.Board.{Board}
-use Rattle.board.specs.declared.Step.{Step}
 use Rattle.board.proofs.Places.{has_free, first_free, closed_place, broken, opened_many, opened_each}
 use Rattle.board.proofs.Lists.{under_append, under_without, length_without}
 use Rattle.board.proofs.Fresh.{after_fits, given_free}

@@ -1,12 +1,10 @@
 -- What each function of the board answers, for any board, also one that no calls make.
-use Rattle.std.specs.Prelude.{ℕ, suc, Bool, true, false, cond as pick, not, ◌&&◌, List, [], ◌∷◌, length, replicate, ◌==◌, nat_le, slice_set}
-use Rattle.board.specs.Breaks.{Break, is_open, provider_of, free_from, after}
-use Rattle.board.specs.declared.Answer.TheVariants.{Is, Refused}
+use Rattle.std.specs.Prelude.{ℕ, suc, Bool, true, false, cond as pick, not, ◌&&◌, List, [], ◌∷◌, length, replicate, ◌==◌, nat_le, slice_set, Ok, Err}
+use Rattle.board.specs.Breaks.{Answer, Break, is_open, provider_of, free_from, after}
 use Rattle.board.specs.declared.Refusal.{Refusal}
 use Rattle.board.specs.declared.Refusal.TheVariants.{BoardFull, NotOpen}
 use Rattle.board.specs.declared.Place.{Place}
 use Rattle.board.specs.declared.Board.{Board}
-use Rattle.board.specs.declared.Step.{Step}
 
 abbrev pub blank_place : Place
 blank_place = record { used = false; event = 0; provider = 0 }
@@ -35,9 +33,14 @@ unfoldable pub breaks_of : List Place → List Break
 breaks_of [] = []
 breaks_of (p ∷ ps) = pick p.used (record { event = p.event; provider = p.provider } ∷ breaks_of ps) (breaks_of ps)
 
+-- what a call answers, and the board after it
+pub record Step : Type 0 where
+  pub answer : Answer
+  pub board : Board
+
 -- "both leave the board as found"
 abbrev pub as_found : Refusal → Board → Step
-as_found refusal b = record { answer = Refused refusal; board = b }
+as_found refusal b = record { answer = Err refusal; board = b }
 
 -- the break stands in the first free place: "A closed break's place serves a later one"
 unfoldable pub open_of : Board → ℕ → Step
@@ -45,7 +48,7 @@ open_of b provider =
     let id : ℕ = free_from 32 (breaks_of b.places) b.next in
     pick (nat_le 32 (length (breaks_of b.places))) (as_found BoardFull b)
     (record {
-      answer = Is id;
+      answer = Ok id;
       board = record { places = slice_set b.places (before is_free b.places) (taken_by id provider); next = after id };
     })
 
@@ -53,7 +56,7 @@ unfoldable pub close_of : Board → ℕ → Step
 close_of b id =
     pick (is_open id (breaks_of b.places))
     (record {
-      answer = Is (provider_of id (breaks_of b.places));
+      answer = Ok (provider_of id (breaks_of b.places));
       board = record { places = slice_set b.places (before (holds id) b.places) blank_place; next = b.next };
     })
     (as_found NotOpen b)

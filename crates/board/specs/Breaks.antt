@@ -1,10 +1,12 @@
 -- The plain list of Q-7: "a plain list of open breaks with a next id".
 -- `limit` is how many may be open: 32 for Q-7's one list, 16 for each of Q-8's two.
-use Rattle.std.specs.Prelude.{ℕ, zero, suc, ◌+◌, ◌%◌, Bool, cond as pick, List, [], ◌∷◌, ◌++◌, length, ◌==◌, nat_le, nat_lt, slice_index}
-use Rattle.board.specs.declared.Answer.{Answer}
-use Rattle.board.specs.declared.Answer.TheVariants.{Is, Refused}
+use Rattle.std.specs.Prelude.{ℕ, zero, suc, ◌+◌, ◌%◌, Bool, cond as pick, List, [], ◌∷◌, ◌++◌, length, ◌==◌, nat_le, nat_lt, slice_index, Result, Ok, Err}
 use Rattle.board.specs.declared.Refusal.{Refusal}
 use Rattle.board.specs.declared.Refusal.TheVariants.{BoardFull, NotOpen}
+
+-- to an opening its event id, to a closing the provider id; or the refusal
+abbrev pub Answer : Type 0
+Answer = Result ℕ Refusal
 
 -- the number of each refusal
 unfoldable pub number_of : Refusal → ℕ
@@ -56,17 +58,17 @@ pub record Told : Type 0 where
 
 -- "both leave the board as found"
 abbrev pub told : Refusal → Breaks → Told
-told refusal l = record { answer = Refused refusal; breaks = l }
+told refusal l = record { answer = Err refusal; breaks = l }
 
 -- "Opening takes a 32-bit provider id and gives an event id"; "61 open exactly when 32 are open"
 unfoldable pub opened : ℕ → ℕ → Breaks → Told
 opened limit provider l =
     let id : ℕ = free_from limit l.held l.next in
     pick (nat_le limit (length l.held)) (told BoardFull l)
-    (record { answer = Is id; breaks = record { held = l.held ++ record { event = id; provider = provider } ∷ []; next = after id } })
+    (record { answer = Ok id; breaks = record { held = l.held ++ record { event = id; provider = provider } ∷ []; next = after id } })
 
 -- "closing takes the event id and gives the provider id back"; "62 close exactly when the id isn't open"
 unfoldable pub closed : ℕ → Breaks → Told
 closed id l =
-    pick (is_open id l.held) (record { answer = Is (provider_of id l.held); breaks = record { held = without id l.held; next = l.next } })
+    pick (is_open id l.held) (record { answer = Ok (provider_of id l.held); breaks = record { held = without id l.held; next = l.next } })
     (told NotOpen l)

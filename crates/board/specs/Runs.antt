@@ -1,10 +1,8 @@
 -- Calls, and what the plain list answers to them one after the other.
 use Rattle.std.specs.Prelude.{ℕ, List, [], ◌∷◌}
-use Rattle.board.specs.Breaks.{Breaks, Told, opened, closed}
-use Rattle.board.specs.Board.{open_of, close_of}
-use Rattle.board.specs.declared.Answer.{Answer}
+use Rattle.board.specs.Breaks.{Answer, Breaks, Told, opened, closed}
+use Rattle.board.specs.Board.{Step, open_of, close_of}
 use Rattle.board.specs.declared.Board.{Board}
-use Rattle.board.specs.declared.Step.{Step}
 
 pub data Call : Type 0 where
   opening : ℕ → Call

@@ -1,16 +1,25 @@
-// The open-break board (Q-7): 32 places for breaks now open. A board goes in by value and comes back.
+// The open-break board (Q-7): 32 places for breaks now open.
 #![tactic(auto)]
 
-ghost use Rattle.std.specs.Prelude.{◌≡◌, length};
+ghost use Rattle.std.specs.Prelude.{◌≡◌, position};
 ghost use Rattle.board.specs.Breaks.{free_from};
-ghost use Rattle.board.specs.Board.{blank_place, empty_board, is_free, holds, before, breaks_of, as_found, open_of, close_of};
+ghost use Rattle.board.specs.Board.{blank_place, empty_board, is_free, holds, breaks_of, open_of, close_of};
 
-// A place: free, or with an open break's event id and provider id. A free place is all zero.
+// A place: free, or with an open break's event id and provider id. A free place that calls make is all zero.
+// A flag and not an Option: of a free place in lent words both numbers are kept (`place_given`, `ids_word` and `opened` of c_board).
 #[derive(Clone, Copy)]
 pub struct Place {
     pub used: bool,
     pub event: u32,
     pub provider: u32,
+}
+
+impl Place {
+    fn holds(&self, event: u32) -> bool
+        ensures { result ≡ holds event self.now }
+    {
+        self.used && self.event == event
+    }
 }
 
 // `next` is the event id from which the next opening looks for its own.
@@ -21,24 +30,10 @@ pub struct Board {
 }
 
 // Refusals 61 and 62.
-#[derive(Clone, Copy)]
+#[derive(Clone, Copy, Debug, PartialEq, Eq)]
 pub enum Refusal {
     BoardFull,
     NotOpen,
-}
-
-// To an opening its event id, to a closing the provider id.
-#[derive(Clone, Copy)]
-pub enum Answer {
-    Is(u32),
-    Refused(Refusal),
-}
-
-// What a call answers, and the board after it.
-#[derive(Clone, Copy)]
-pub struct Step {
-    pub answer: Answer,
-    pub board: Board,
 }
 
 pub fn blank_place() -> Place
@@ -51,118 +46,68 @@ pub fn blank_place() -> Place
     }
 }
 
-pub fn empty() -> Board
-    ensures { result ≡ empty_board }
+// The first free place.
+pub fn free_place(places: &[Place]) -> Option<usize>
+    ensures { result ≡ position is_free places.now }
 {
-    let none = blank_place();
-    Board {
-        places: [none; 32],
-        next: 1,
-    }
+    places.iter().position(|p| !p.used)
 }
 
-// The first free place, or 32. (A proof of who calls this is not told how long an array in a struct is: the contract says it.)
-pub fn free_place(places: [Place; 32]) -> usize
-    ensures { (result ≡ before is_free places) × (length places ≡ 32) }
+// The first place with a break of this event id.
+pub fn place_of(places: &[Place], event: u32) -> Option<usize>
+    ensures { result ≡ position (holds event) places.now }
 {
-    let mut i: usize = 0;
-    while i < 32 {
-        let p = places[i];
-        if !p.used {
-            return i;
-        }
-        i += 1;
-    }
-    i
-}
-
-fn has_event(p: Place, event: u32) -> bool
-    ensures { result ≡ holds event p }
-{
-    p.used && p.event == event
-}
-
-// The first place with a break of this event id, or 32.
-pub fn place_of(places: [Place; 32], event: u32) -> usize
-    ensures { (result ≡ before (holds event) places) × (length places ≡ 32) }
-{
-    let mut i: usize = 0;
-    while i < 32 {
-        if has_event(places[i], event) {
-            return i;
-        }
-        i += 1;
-    }
-    i
+    places.iter().position(|p| p.holds(event))
 }
 
 // The first event id from `next` on that is not open. With fewer than `most` open, fewer than `most` are passed over (proofs/Fresh.antt).
-pub fn free_id(places: [Place; 32], next: u32, most: u32) -> u32
-    ensures { result ≡ free_from most (breaks_of places) next }
+pub fn free_id(places: &[Place], next: u32, most: u32) -> u32
+    ensures { result ≡ free_from most (breaks_of places.now) next }
 {
     let mut id = next;
-    let mut left = most;
-    while 0 < left {
-        if 32 <= place_of(places, id) {
+    for _ in 0..most {
+        if place_of(places, id).is_none() {
             return id;
         }
-        id = std::num::wrapping_add_u32(id, 1);
-        left -= 1;
+        id = id.wrapping_add(1);
     }
     id
 }
 
-fn refused(b: Board, refusal: Refusal) -> Step
-    ensures { result ≡ as_found refusal b }
-{
-    Step {
-        answer: Answer::Refused(refusal),
-        board: b,
+impl Board {
+    pub fn empty() -> Board
+        ensures { result ≡ empty_board }
+    {
+        Board {
+            places: [blank_place(); 32],
+            next: 1,
+        }
     }
-}
 
-// Opens a break for this provider id: its event id, or 61 where all places are taken.
-pub fn open_break(b: Board, provider: u32) -> Step
-    ensures { result ≡ open_of b provider }
-{
-    let places = b.places;
-    let at = free_place(places);
-    if 32 <= at {
-        return refused(b, Refusal::BoardFull);
+    // Opens a break for this provider id: its event id, or 61 where all places are taken.
+    pub fn open_break(&mut self, provider: u32) -> Result<u32, Refusal>
+        ensures answer { result ≡ (open_of self.old provider).answer }
+        ensures board { self.new ≡ (open_of self.old provider).board }
+    {
+        let at = free_place(&self.places).ok_or(Refusal::BoardFull)?;
+        let event = free_id(&self.places, self.next, 32);
+        self.places[at] = Place {
+            used: true,
+            event,
+            provider,
+        };
+        self.next = event.wrapping_add(1);
+        Ok(event)
     }
-    let event = free_id(places, b.next, 32);
-    let mut after = places;
-    after[at] = Place {
-        used: true,
-        event,
-        provider,
-    };
-    Step {
-        answer: Answer::Is(event),
-        board: Board {
-            places: after,
-            next: std::num::wrapping_add_u32(event, 1),
-        },
-    }
-}
 
-// Closes the break with this event id: its provider id, or 62 where none has it.
-pub fn close_break(b: Board, event: u32) -> Step
-    ensures { result ≡ close_of b event }
-{
-    let places = b.places;
-    let at = place_of(places, event);
-    if 32 <= at {
-        return refused(b, Refusal::NotOpen);
-    }
-    let p = places[at];
-    let mut after = places;
-    after[at] = blank_place();
-    Step {
-        answer: Answer::Is(p.provider),
-        board: Board {
-            places: after,
-            next: b.next,
-        },
+    // Closes the break with this event id: its provider id, or 62 where none has it.
+    pub fn close_break(&mut self, event: u32) -> Result<u32, Refusal>
+        ensures answer { result ≡ (close_of self.old event).answer }
+        ensures board { self.new ≡ (close_of self.old event).board }
+    {
+        let at = place_of(&self.places, event).ok_or(Refusal::NotOpen)?;
+        let provider = self.places[at].provider;
+        self.places[at] = blank_place();
+        Ok(provider)
     }
 }

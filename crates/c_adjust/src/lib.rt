@@ -4,9 +4,8 @@
 ghost use Rattle.std.specs.Prelude.{◌≡◌};
 ghost use Rattle.c_adjust.specs.FlatAdjust.{flat_moved, flat_adjustment};
 
-use adjust::{Adjustment, Moved};
 use c_section::headers::{FlatAdjusted, TOO_LARGE};
-use splice_time::SpliceTime;
+use splice_time::{SpliceTime, TooLarge};
 
 #[repr(C)]
 #[derive(Clone, Copy)]
@@ -16,11 +15,11 @@ pub struct FlatAdjustment {
 }
 
 // A time of the kind that was handed in: one that is not specified keeps it.
-pub fn flat_moved(kind: u64, m: Moved) -> FlatAdjusted
+pub fn flat_moved(kind: u64, m: Result<SpliceTime, TooLarge>) -> FlatAdjusted
     ensures { result ≡ flat_moved kind m }
 {
     match m {
-        Moved::Is(time) => match time {
+        Ok(time) => match time {
             SpliceTime::Immediate => FlatAdjusted {
                 refusal: 0,
                 kind,
@@ -37,7 +36,7 @@ pub fn flat_moved(kind: u64, m: Moved) -> FlatAdjusted
                 ticks,
             },
         },
-        Moved::TooLarge => FlatAdjusted {
+        Err(TooLarge) => FlatAdjusted {
             refusal: TOO_LARGE,
             kind: 0,
             ticks: 0,
@@ -45,15 +44,15 @@ pub fn flat_moved(kind: u64, m: Moved) -> FlatAdjusted
     }
 }
 
-pub fn flat_adjustment(a: Adjustment) -> FlatAdjustment
+pub fn flat_adjustment(a: Result<u64, TooLarge>) -> FlatAdjustment
     ensures { result ≡ flat_adjustment a }
 {
     match a {
-        Adjustment::Is(adjustment) => FlatAdjustment {
+        Ok(adjustment) => FlatAdjustment {
             refusal: 0,
             adjustment,
         },
-        Adjustment::TooLarge => FlatAdjustment {
+        Err(TooLarge) => FlatAdjustment {
             refusal: TOO_LARGE,
             adjustment: 0,
         },

@@ -1,12 +1,20 @@
 -- Words and boards: what loops over them make, and that a board is found again in its words.
-use Prim.Native.Nat.{ℕ, zero, suc, ◌+◌, ◌/◌, ◌%◌, ◌≤◌, ◌<◌}
-use mathlib.Core.List.{List, [], ◌∷◌, ◌++◌}
-use mathlib.Core.Path.{◌≡◌, refl, sym, ◌∙◌, ap, ap₂}
-use native.Mathlib.Nat.{zero-add, add-zero}
+use Prim.Native.Nat.{ℕ, ◌+◌, ◌/◌, ◌%◌, ◌≤◌, ◌<◌}
+use mathlib.Core.List.{List}
+use mathlib.Core.Path.{◌≡◌, refl, ◌∙◌, ap}
+use native.Mathlib.Nat.{zero-add}
 use native.Mathlib.Omega.{arith}
-use lib.ListN.{length, get_or, drop}
-use lib.Seq.{paste, take_all}
+use lib.ListN.{length, get_or}
 use borrow.Author.Tests.{lt-ltb, le-ltb}
+use mathlib.Core.Bool.{true, false}
+use lib.Dec.{eqb}
+use Rattle.std.specs.Prelude.{Ok, Err, is_ok}
+use Rattle.board.specs.Breaks.{number_of}
+use Rattle.board.specs.declared.Refusal.TheVariants.{BoardFull, NotOpen}
+use Rattle.channels.specs.Channels.{Reply, refusal_of}
+use Rattle.channels.specs.declared.ChannelRefusal.TheVariants.{NoSuchChannel, Board}
+use Rattle.std.proofs.lemmas.List.{ext_get_or}
+use Rattle.std.proofs.lemmas.List.FromFn.{length-map-range_with_len, get_or-map-range_with_len}
 use Rattle.board.specs.Board.{blank_place}
 use Rattle.board.specs.declared.Place.{Place}
 use Rattle.channels.specs.declared.SharedBoard.{SharedBoard}
@@ -17,29 +25,19 @@ use Rattle.c_board.specs.Words.{listed, place_given, places_given, whose_given, 
 module _ {A : Type 0} where
   pub length_listed : (f : ℕ → A) (at n : ℕ) → length (listed f at n) ≡ n
   unfolding listed
-  length_listed f at zero = refl
-  length_listed f at (suc n) = ap suc (length_listed f (suc at) n)
+  length_listed f at n = length-map-range_with_len f at n
 
   pub get_d_listed : (f : ℕ → A) (at n i : ℕ) (d : A) → i < n → get_or (listed f at n) i d ≡ f (at + i)
   unfolding listed
-  get_d_listed f at zero i d h = absurd (omega arith)
-  get_d_listed f at (suc n) zero d h = ap f (sym (add-zero at))
-  get_d_listed f at (suc n) (suc i) d h = get_d_listed f (suc at) n i d (omega arith) ∙ ap f (omega arith)
+  get_d_listed f at n i d h = get_or-map-range_with_len f at n i (at + i) d h refl
 
   -- what a list has at its places, in their order, is the list
   pub listed_again : (f : ℕ → A) (at : ℕ) (d : A) (l : List A) → ((i : ℕ) → i < length l → f (at + i) ≡ get_or l i d) → listed f at (length l) ≡ l
-  unfolding listed
-  listed_again f at d [] h = refl
-  listed_again f at d (x ∷ l) h =
-      ap₂ (λ (y : A) (ys : List A). y ∷ ys) (ap f (sym (add-zero at)) ∙ h 0 (omega arith))
-      (listed_again f (suc at) d l (λ i g. ap f (omega arith) ∙ h (suc i) (omega arith)))
-
--- ---- the stores of a board
-
-pub stored_all : (w s out : List ℕ) (i : ℕ) → length s ≡ 66 → i ≤ 66 → 66 ≤ i → out ≡ paste w 0 s i → out ≡ s ++ drop 66 w
-stored_all w s out i l h g e =
-    let z : i ≡ 66 = omega arith in
-    e ∙ rw z (ap (λ (x : List ℕ). x ++ drop 66 w) (take_all 66 s (omega arith)))
+  listed_again f at d l h =
+      ext_get_or d _ _ (length_listed f at (length l))
+      (λ i g.
+      let b : i < length l = omega (arith, length_listed f at (length l)) in
+      get_d_listed f at (length l) i d b ∙ h i b)
 
 -- ---- the word at a place
 
@@ -60,6 +58,20 @@ module _ (p : Place) (whose next at : ℕ) where
 
 pub word_there : (b : SharedBoard) (at : ℕ) → at < 66 → get_or (words_of b) at 0 ≡ word_at b at
 word_there b at h = get_d_listed (word_at b) 0 66 at 0 h ∙ ap (word_at b) (zero-add at)
+
+-- ---- what a reply's number says
+
+pub accepted : (reply : Reply) → is_ok reply ≡ true → eqb (refusal_of reply) 0 ≡ true
+unfolding refusal_of
+accepted (Ok id) h = refl
+accepted (Err refusal) h = absurd (grind (arith, h))
+
+pub refused : (reply : Reply) → is_ok reply ≡ false → eqb (refusal_of reply) 0 ≡ false
+unfolding refusal_of number_of
+refused (Ok id) h = absurd (grind (arith, h))
+refused (Err NoSuchChannel) h = refl
+refused (Err (Board BoardFull)) h = refl
+refused (Err (Board NotOpen)) h = refl
 
 -- ---- the places that words make
 

@@ -1,11 +1,7 @@
 -- What the functions over C answer, and the lent words after them.
-use Rattle.std.specs.Prelude.{ℕ, cond as pick, List, ltb, eqb, length}
-use Rattle.board.specs.declared.Answer.TheVariants as answer
-use Rattle.channels.specs.Channels.{refusal_of, empty_shared, open_of, close_of}
-use Rattle.channels.specs.declared.Reply.{Reply}
-use Rattle.channels.specs.declared.Reply.TheVariants.{NoSuchChannel, Is}
+use Rattle.std.specs.Prelude.{Ok, Err, ℕ, cond as pick, List, ltb, eqb, length}
+use Rattle.channels.specs.Channels.{Reply, Turn, refusal_of, empty_shared, open_of, close_of}
 use Rattle.channels.specs.declared.SharedBoard.{SharedBoard}
-use Rattle.channels.specs.declared.Turn.{Turn}
 use Rattle.c_board.specs.Words.{board_given, stored}
 use Rattle.c_board.specs.declared.FlatBoardAnswer.{FlatBoardAnswer}
 
@@ -15,9 +11,8 @@ pub record Lent : Type 0 where
 
 -- the id that a call is given
 unfoldable pub id_of : Reply → ℕ
-id_of NoSuchChannel = 0
-id_of (Is (answer.Is id)) = id
-id_of (Is (answer.Refused r)) = 0
+id_of (Ok id) = id
+id_of (Err r) = 0
 
 unfoldable pub flat_reply : Reply → FlatBoardAnswer
 flat_reply reply = record { refusal = refusal_of reply; id = id_of reply }

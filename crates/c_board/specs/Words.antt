@@ -1,15 +1,15 @@
 -- A board of two channels in words.
 -- 66 words: the ids of each of 32 places, 32 marks (taken or not, and above that the channel), the next id of each channel. Every run of 66 words is a
 -- board: what lies above a mark's channel and above 32 bits of a next id is not looked at.
-use Rattle.std.specs.Prelude.{ℕ, zero, suc, ◌+◌, ◌*◌, ◌/◌, ◌%◌, cond as pick, List, [], ◌∷◌, ◌++◌, ltb, eqb, get_or, drop}
+use Rattle.std.specs.Prelude.{map, ℕ, ◌+◌, ◌*◌, ◌/◌, ◌%◌, cond as pick, List, [], ◌∷◌, ◌++◌, ltb, eqb, get_or, drop}
+use Rattle.std.specs.List.{range_with_len}
 use Rattle.board.specs.Board.{blank_place}
 use Rattle.board.specs.declared.Place.{Place}
 use Rattle.channels.specs.declared.SharedBoard.{SharedBoard}
 
 -- what `f` makes of `at` and the numbers after it, n in all
 unfoldable pub listed : {A : Type 0} → (ℕ → A) → ℕ → ℕ → List A
-listed f at zero = []
-listed f at (suc n) = f at ∷ listed f (suc at) n
+listed f at n = map f (range_with_len at n)
 
 unfoldable pub place_given : ℕ → ℕ → Place
 place_given ids mark = record { used = eqb (mark % 2) 1; event = ids / 4294967296; provider = ids % 4294967296 }

@@ -3,14 +3,14 @@
 // shorter one is refused (36). Only an accepted call changes the words.
 #![tactic(auto)]
 
-ghost use Rattle.std.specs.Prelude.{◌≤◌, ◌≡◌, length};
-ghost use Rattle.board.specs.Breaks.{number_of};
-ghost use Rattle.c_board.specs.Words.{place_given, places_given, whose_given, board_given, ids_word, mark_word, word_of, stored};
-ghost use Rattle.channels.specs.declared.Reply.TheVariants as reply;
+ghost use Rattle.std.specs.Prelude.{◌+◌, ◌≤◌, ◌<◌, ◌≡◌, Err, length, slice_index};
+ghost use Rattle.channels.specs.Channels.{refusal_of};
+ghost use Rattle.c_board.specs.Words.{place_given, places_given, whose_given, board_given, ids_word, mark_word, word_at, stored};
 ghost use Rattle.c_board.specs.Lent.{flat_reply, settled, emptied, opened, closed};
 
-use board::{Answer, Place, Refusal, blank_place};
-use channels::{Reply, SharedBoard, close_break, empty, open_break};
+use board::{Place, Refusal};
+use channels::{ChannelRefusal, SharedBoard};
+use std::array;
 
 // To an opening its event id, to a closing the provider id; or the number of the refusal.
 #[repr(C)]
@@ -18,6 +18,23 @@ use channels::{Reply, SharedBoard, close_break, empty, open_break};
 pub struct FlatBoardAnswer {
     pub refusal: u64,
     pub id: u64,
+}
+
+impl From<Result<u32, ChannelRefusal>> for FlatBoardAnswer {
+    ghost from_gives = { λ reply flat. flat ≡ flat_reply reply };
+
+    fn from(reply: Result<u32, ChannelRefusal>) -> FlatBoardAnswer {
+        match reply {
+            Ok(id) => FlatBoardAnswer {
+                refusal: 0,
+                id: id as u64,
+            },
+            Err(refusal) => FlatBoardAnswer {
+                refusal: number_of(refusal),
+                id: 0,
+            },
+        }
+    }
 }
 
 // How many places there are, where their marks and the next ids stand, and how many words all are. An event id counts ABOVE times in its word.
@@ -33,11 +50,13 @@ const BOARD_WORDS: usize = 66;
 
 const ABOVE: u64 = 4294967296;
 
-fn place_given(ids: u64, mark: u64) -> Place
-    ensures { result ≡ place_given ids mark }
+fn place_at(words: &[u64], i: usize) -> Place
+    requires { (66 ≤ length words.now) × (i < 32) }
+    ensures { result ≡ place_given (slice_index words.now i) (slice_index words.now (32 + i)) }
 {
+    let ids = words[i];
     Place {
-        used: mark % 2 == 1,
+        used: words[MARKS + i] % 2 == 1,
         event: (ids / ABOVE) as u32,
         provider: (ids % ABOVE) as u32,
     }
@@ -47,53 +66,38 @@ fn places_given(words: &[u64]) -> [Place; PLACES]
     requires { 66 ≤ length words.now }
     ensures { result ≡ places_given words.now }
 {
-    let none = blank_place();
-    let mut out = [none; PLACES];
-    let mut i: usize = 0;
-    while i < PLACES {
-        out[i] = place_given(words[i], words[MARKS + i]);
-        i += 1;
-    }
-    out
+    array::from_fn(|i| place_at(words, i))
 }
 
 fn whose_given(words: &[u64]) -> [u8; PLACES]
     requires { 66 ≤ length words.now }
     ensures { result ≡ whose_given words.now }
 {
-    let mut out = [0; PLACES];
-    let mut i: usize = 0;
-    while i < PLACES {
-        out[i] = (words[MARKS + i] / 2 % 256) as u8;
-        i += 1;
-    }
-    out
+    array::from_fn(|i| (words[MARKS + i] / 2 % 256) as u8)
 }
 
 fn board_given(words: &[u64]) -> SharedBoard
     requires { 66 ≤ length words.now }
     ensures { result ≡ board_given words.now }
 {
-    let places = places_given(words);
-    let whose = whose_given(words);
-    let mut next = [0; 2];
-    next[0] = (words[NEXT] % ABOVE) as u32;
-    next[1] = (words[NEXT_OF_SECOND] % ABOVE) as u32;
     SharedBoard {
-        places,
-        whose,
-        next,
+        places: places_given(words),
+        whose: whose_given(words),
+        next: [
+            (words[NEXT] % ABOVE) as u32,
+            (words[NEXT_OF_SECOND] % ABOVE) as u32,
+        ],
     }
 }
 
-fn ids_word(p: Place) -> u64
-    ensures { result ≡ ids_word p }
+fn ids_word(p: &Place) -> u64
+    ensures { result ≡ ids_word p.now }
 {
     (p.event as u64) * ABOVE + (p.provider as u64)
 }
 
-fn mark_word(p: Place, whose: u8) -> u64
-    ensures { result ≡ mark_word p whose }
+fn mark_word(p: &Place, whose: u8) -> u64
+    ensures { result ≡ mark_word p.now whose }
 {
     if p.used {
         return (whose as u64) * 2 + 1;
@@ -101,79 +105,49 @@ fn mark_word(p: Place, whose: u8) -> u64
     (whose as u64) * 2
 }
 
-// A board's word at a place, 65 being the last, with the board's place, channel and next id that it is of.
-fn word_of(p: Place, whose: u8, next: u32, at: usize) -> u64
-    ensures { result ≡ word_of p whose next at }
+// A board's word at a place, 65 being the last.
+fn word_at(b: &SharedBoard, at: usize) -> u64
+    ensures { result ≡ word_at b.now at }
 {
+    let p = b.places[at % PLACES];
     if at < MARKS {
-        return ids_word(p);
+        return ids_word(&p);
     }
     if at < NEXT {
-        return mark_word(p, whose);
+        return mark_word(&p, b.whose[at % PLACES]);
     }
-    next as u64
+    b.next[at % 2] as u64
 }
 
-// (A call with an array would copy it each turn.)
-fn put_board(words: &mut [u64], b: SharedBoard)
+fn put_board(words: &mut [u64], b: &SharedBoard)
     requires { 66 ≤ length words.old }
-    ensures { words.new ≡ stored b words.old }
+    ensures { words.new ≡ stored b.now words.old }
 {
-    let places = b.places;
-    let whose = b.whose;
-    let next = b.next;
-    let mut i: usize = 0;
-    while i < BOARD_WORDS {
-        let at = i % PLACES;
-        words[i] = word_of(places[at], whose[at], next[i % 2], i);
-        i += 1;
+    for (i, word) in words[..BOARD_WORDS].iter_mut().enumerate() {
+        *word = word_at(b, i);
     }
 }
 
-fn number_of(r: Refusal) -> u64
-    ensures { result ≡ number_of r }
+fn number_of(refusal: ChannelRefusal) -> u64
+    ensures { result ≡ refusal_of (Err refusal) }
 {
-    match r {
-        Refusal::BoardFull => 61,
-        Refusal::NotOpen => 62,
-    }
-}
-
-fn flat_answer(a: Answer) -> FlatBoardAnswer
-    ensures { result ≡ flat_reply (reply.Is a) }
-{
-    match a {
-        Answer::Is(id) => FlatBoardAnswer {
-            refusal: 0,
-            id: id as u64,
-        },
-        Answer::Refused(r) => FlatBoardAnswer {
-            refusal: number_of(r),
-            id: 0,
-        },
-    }
-}
-
-fn flat_reply(x: Reply) -> FlatBoardAnswer
-    ensures { result ≡ flat_reply x }
-{
-    match x {
-        Reply::NoSuchChannel => FlatBoardAnswer { refusal: 63, id: 0 },
-        Reply::Is(a) => flat_answer(a),
+    match refusal {
+        ChannelRefusal::NoSuchChannel => 63,
+        ChannelRefusal::Board(Refusal::BoardFull) => 61,
+        ChannelRefusal::Board(Refusal::NotOpen) => 62,
     }
 }
 
 // Stores the board where its call was accepted, and hands the answer on.
-fn settle(words: &mut [u64], answer: FlatBoardAnswer, b: SharedBoard) -> FlatBoardAnswer
+fn settle(words: &mut [u64], reply: Result<u32, ChannelRefusal>, b: &SharedBoard) -> FlatBoardAnswer
     requires { 66 ≤ length words.old }
-    ensures answer { result ≡ answer }
-    ensures words { words.new ≡ settled answer b words.old }
+    ensures answer { result ≡ flat_reply reply }
+    ensures words { words.new ≡ settled (flat_reply reply) b.now words.old }
 {
-    if answer.refusal == 0 {
+    if reply.is_ok() {
         put_board(words, b);
-        return answer;
     }
-    answer
+    FlatBoardAnswer::from(reply)
 }
 
 fn too_short() -> FlatBoardAnswer
@@ -189,10 +163,11 @@ pub fn empty_words(words: &mut [u64]) -> FlatBoardAnswer
     if words.len() < BOARD_WORDS {
         return too_short();
     }
-    put_board(words, empty());
+    put_board(words, &SharedBoard::empty());
     FlatBoardAnswer { refusal: 0, id: 0 }
 }
 
+// Two functions, and not one that takes the call as a closure: by F.post its clauses would say less plainly what these say.
 pub fn open_words(words: &mut [u64], channel: u8, provider: u32) -> FlatBoardAnswer
     ensures answer { result ≡ (opened words.old channel provider).answer }
     ensures words { words.new ≡ (opened words.old channel provider).words }
@@ -200,10 +175,9 @@ pub fn open_words(words: &mut [u64], channel: u8, provider: u32) -> FlatBoardAns
     if words.len() < BOARD_WORDS {
         return too_short();
     }
-    let t = open_break(board_given(words), channel, provider);
-    let reply = t.reply;
-    let b = t.board;
-    settle(words, flat_reply(reply), b)
+    let mut b = board_given(words);
+    let reply = b.open_break(channel, provider);
+    settle(words, reply, &b)
 }
 
 pub fn close_words(words: &mut [u64], channel: u8, event: u32) -> FlatBoardAnswer
@@ -213,8 +187,7 @@ pub fn close_words(words: &mut [u64], channel: u8, event: u32) -> FlatBoardAnswe
     if words.len() < BOARD_WORDS {
         return too_short();
     }
-    let t = close_break(board_given(words), channel, event);
-    let reply = t.reply;
-    let b = t.board;
-    settle(words, flat_reply(reply), b)
+    let mut b = board_given(words);
+    let reply = b.close_break(channel, event);
+    settle(words, reply, &b)
 }

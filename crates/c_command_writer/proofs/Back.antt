@@ -4,7 +4,6 @@ use mathlib.Core.Path.{◌≡◌, refl, ap, ◌∙◌}
 use native.Mathlib.Nat.{mod-eq_of_lt}
 use lib.Dec.{eqb}
 use Rattle.command.specs.declared.SpliceCommand.{SpliceCommand}
-use Rattle.splice_time.specs.declared.break_duration.Break.{Break}
 use Rattle.command.specs.declared.insert.InsertDetail.{InsertDetail}
 use Rattle.command.specs.declared.insert.SpliceDetail.{SpliceDetail}
 use Rattle.command.specs.declared.insert.SpliceMode.{SpliceMode}
@@ -19,6 +18,8 @@ use Rattle.table.specs.Bits.{pick}
 use Rattle.c_command_writer.specs.CommandGiven.{mode_in, break_in, insert_in, command_in, time_from, mode_from, break_from, insert_from, insertion_from, command_from, command_given}
 use Rattle.c_command_writer.specs.CommandWords.{command_words}
 use Rattle.c_command_writer.proofs.Typed.{TypedMode, TypedDetail, Typed}
+use Rattle.std.proofs.Common.{Some, None, Option}
+use Rattle.splice_time.specs.declared.break_duration.SpliceDuration.{SpliceDuration}
 
 -- ---- the struct that the words of a struct are
 pub words_back : (f : FlatCommand) → command_in (command_words f) ≡ f
@@ -44,10 +45,10 @@ unfolding mode_from flat_mode
 mode_back (SpliceMode.Program t) h = ap SpliceMode.Program (time_back t)
 mode_back (SpliceMode.Components n) h = ap SpliceMode.Components (mod-eq_of_lt h)
 
-break_back : (b : Break) → break_from (flat_break b) ≡ b
+break_back : (b : Option SpliceDuration) → break_from (flat_break b) ≡ b
 unfolding break_from flat_break
-break_back Break.Absent = refl
-break_back (Break.Lasts d) = rw (return_back d.return_mode)
+break_back None = refl
+break_back (Some d) = rw (return_back d.return_mode)
 
 insert_back : (event reserved : ℕ) (i : InsertDetail) → TypedDetail (SpliceDetail.Insert i) → insert_from (active_insert event 0 reserved i) ≡ i
 unfolding insert_from active_insert

@@ -15,7 +15,6 @@ use Rattle.command.specs.Insert.{WithComponents, count, program_time, immediate,
 use Rattle.splice_time.specs.Break.{lasting, break_ticks}
 use Rattle.command.specs.declared.SpliceCommand.{SpliceCommand}
 use Rattle.command.specs.declared.components.InsertComponent.{InsertComponent}
-use Rattle.splice_time.specs.declared.break_duration.Break.{Break}
 use Rattle.command.specs.declared.insert.InsertDetail.{InsertDetail}
 use Rattle.command.specs.declared.insert.SpliceInsert.{SpliceInsert}
 use Rattle.command.specs.declared.insert.SpliceDetail.{SpliceDetail}
@@ -42,6 +41,8 @@ use Rattle.c_command_writer.specs.Words.{word, within, same, each_place}
 use Rattle.command.proofs.Arrays.{array_take}
 use Rattle.c_command_writer.proofs.Given.{same_at, same_append, within_same, SmallDetail, Small, seen_by}
 use Rattle.c_command_writer.proofs.Typed.{TypedMode, TypedDetail, Typed}
+use Rattle.std.proofs.Common.{Some, None, Option}
+use Rattle.splice_time.specs.declared.break_duration.SpliceDuration.{SpliceDuration}
 
 -- ---- the numbers of fields that are within their widths
 list_tags : (b : Bool) (cs : List InsertComponent) → writing.within (list_fields b cs) ≡ true → Tags cs
@@ -183,11 +184,11 @@ network_within : (n : NetworkIndicator) → ltb (network_flag n) 2 ≡ true
 network_within NetworkIndicator.In = refl
 network_within NetworkIndicator.Out = refl
 
-break_within : (b : Break) → ltb (break_ticks b) (2 ^ 33) ≡ true
+break_within : (b : Option SpliceDuration) → ltb (break_ticks b) (2 ^ 33) ≡ true
     → (ltb (flat_break b).duration_flag 2 ≡ true) × (ltb (flat_break b).auto_return 2 ≡ true) × (ltb (flat_break b).duration (2 ^ 33) ≡ true)
 unfolding flat_break
-break_within Break.Absent e = (refl, refl, refl)
-break_within (Break.Lasts d) e = (refl, return_within d.return_mode, e)
+break_within None e = (refl, refl, refl)
+break_within (Some d) e = (refl, return_within d.return_mode, e)
 
 cancel_within : (event kept : ℕ) → event < 2 ^ 32 → ltb kept (2 ^ 7) ≡ true → within command_widths (command_words (flat_command (SpliceCommand.SpliceInsert (insertion event kept SpliceDetail.Cancel)))) ≡ true
 unfolding within command_widths command_words flat_command flat_insertion active_insert insert_head flat_mode flat_break

@@ -15,7 +15,6 @@ use Rattle.splice_time.specs.Break.{break_ticks}
 use Rattle.command.specs.Insert.{program_time}
 use Rattle.command.specs.declared.SpliceCommand.{SpliceCommand}
 use Rattle.command.specs.declared.components.InsertComponent.{InsertComponent}
-use Rattle.splice_time.specs.declared.break_duration.Break.{Break}
 use Rattle.command.specs.declared.insert.SpliceDetail.{SpliceDetail}
 use Rattle.command.specs.declared.insert.SpliceMode.{SpliceMode}
 use Rattle.command_measure.specs.Made.{times_fit}
@@ -34,6 +33,7 @@ use Rattle.c_command_writer.specs.CommandWords.{command_words, command_widths, c
 use Rattle.c_command_writer.specs.Words.{word, within, same, places_of, each_place}
 use Rattle.c_command_writer.proofs.Back.{words_back, command_back, time_back}
 use Rattle.c_command_writer.proofs.Typed.{TypedMode, TypedDetail, Typed}
+use Rattle.std.proofs.Common.{Some, None}
 
 -- ---- words that are the same, and words within their widths
 pub same_at : (own words : List ℕ) → same own words ≡ true → (i : ℕ) → i < length own → word words i ≡ word own i
@@ -206,7 +206,7 @@ small_detail i t d false = (mode (eqb i.mode.program_splice_flag 1), lasts (eqb 
     mode false = refl
 
     lasts : (b : Bool)
-        → ltb (break_ticks (pick b (Break.Lasts (record { return_mode = pick (eqb i.break_duration.auto_return 1) ReturnMode.Automatic ReturnMode.Manual; duration = i.break_duration.duration })) Break.Absent)) (2 ^ 33) ≡ true
+        → ltb (break_ticks (pick b (Some (record { return_mode = pick (eqb i.break_duration.auto_return 1) ReturnMode.Automatic ReturnMode.Manual; duration = i.break_duration.duration })) None)) (2 ^ 33) ≡ true
     lasts true = lt-ltb _ _ d
     lasts false = refl
 

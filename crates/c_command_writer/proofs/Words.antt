@@ -4,19 +4,19 @@ use mathlib.Core.Bool.{Bool, true, false, ◌&&◌}
 use mathlib.Core.List.{List, [], ◌∷◌, ◌++◌}
 use mathlib.Core.Path.{◌≡◌, refl, ap, sym, ◌∙◌}
 use native.Mathlib.Nat.{sub-zero, zero-sub, suc-sub-suc, zero-add, add-zero, add_comm, zero-mul, suc-mul, div-eq_of_lt, div-add-mod', mod-lt}
-use native.Mathlib.Numerals.{add-one}
 use native.Mathlib.Omega.{arith}
 use lib.Dec.{eqb, ltb, leb, leb-suc-zero}
-use lib.ListN.{length, get_or, drop, replicate, drop_of_length-le}
+use lib.ListN.{length, get_or, drop, replicate}
 use lib.Pow.{pow_pos, pow_mono}
-use lib.Seq.{drop-cons, drop-drop, get_or-drop, paste, take_all}
+use lib.Seq.{drop-drop, get_or-drop, paste, take_all}
+use Rattle.std.specs.List.{list_all, enumerate_from, range_with_len}
 use borrow.Author.Tests.{ltb-true, ltb-false, lt-ltb, le-ltb, eq-eqb, ne_eqb}
 use Rattle.bit_stores.specs.Written.{answer_of, later_of}
-use Rattle.bit_stores.specs.declared.Written.{Written}
 use Rattle.table.specs.Bits.{pick}
 use Rattle.table.specs.Writing.{Made, made, refused}
 use Rattle.c_command_writer.specs.Private.{lower}
 use Rattle.c_command_writer.specs.Words.{within, same, places_of, each_place, refusal_of, lowest, no_less, flat_written}
+use Rattle.std.proofs.Common.{Ok, Err, Result}
 
 -- ---- a width
 pub within_64 : (width x : ℕ) → x < 2 ^ 64 → 64 ≤ width → true ≡ ltb x (2 ^ width)
@@ -78,12 +78,12 @@ unfolding answer_of
 lower_36 n (refused k) h = refl
 lower_36 n (made b) h = go (leb (length b) 0)
   where
-    go : (t : Bool) → lower n (pick t (Written.Wrote (length b)) (Written.Refused 36)) ≡ n
+    go : (t : Bool) → lower n (pick t (Ok (length b)) (Err 36)) ≡ n
     go true = refl
     go false = rw (le-ltb 36 n h)
 
 module _ (n : ℕ) (m : Made) (target : List ℕ) where
-  pub refused_words : (x : Written) → 0 < n → n ≤ 36 → x ≡ answer_of m [] → record { refusal = lower n x; length = 0 } ≡ flat_written (answer_of (no_less n m) target)
+  pub refused_words : (x : Result ℕ ℕ) → 0 < n → n ≤ 36 → x ≡ answer_of m [] → record { refusal = lower n x; length = 0 } ≡ flat_written (answer_of (no_less n m) target)
   unfolding answer_of flat_written no_less
   refused_words x h g e = rw (ne_eqb n 0 (λ z. omega arith), e, lower_36 n m g)
 
@@ -102,23 +102,16 @@ word_drop words i = get_or-drop i words 0 0 ∙ ap (λ (k : ℕ). get_or words k
 pub word_drop_two : (words : List ℕ) → get_or (drop 1 (drop 1 words)) 0 0 ≡ get_or words 2 0
 word_drop_two words = ap (λ (l : List ℕ). get_or l 0 0) (drop-drop 1 1 words) ∙ word_drop words 2
 
-pub within_step : (widths words : List ℕ) (i : ℕ) → i < length widths
-    → within (drop i widths) (drop i words) ≡ ltb (get_or words i 0) (2 ^ get_or widths i 0) && within (drop (i + 1) widths) (drop (i + 1) words)
+-- each word beside its place is what the whole says
+pub all_within : (widths words : List ℕ) (n : ℕ) → list_all (λ (p : ℕ × ℕ). ltb (get_or words p.0 0) (2 ^ p.1)) (enumerate_from n widths) ≡ within widths (drop n words)
 unfolding within
-within_step widths words i h = rw (drop-cons widths i 0 h, word_drop words i, drop-drop 1 i words, add-one i)
+all_within [] words n = refl
+all_within (w ∷ widths) words n = rw (word_drop words n, drop-drop 1 n words) (ap (λ (b : Bool). ltb (get_or words n 0) (2 ^ w) && b) (all_within widths words (n + 1)))
 
-pub within_end : (widths words : List ℕ) (i : ℕ) → length widths ≤ i → within (drop i widths) (drop i words) ≡ true
-unfolding within
-within_end widths words i h = rw (drop_of_length-le widths h)
-
-pub same_step : (own words : List ℕ) (i : ℕ) → i < length own
-    → same (drop i own) (drop i words) ≡ eqb (get_or words i 0) (get_or own i 0) && same (drop (i + 1) own) (drop (i + 1) words)
+pub all_same : (own words : List ℕ) (n : ℕ) → list_all (λ (p : ℕ × ℕ). eqb (get_or words p.0 0) p.1) (enumerate_from n own) ≡ same own (drop n words)
 unfolding same
-same_step own words i h = rw (drop-cons own i 0 h, word_drop words i, drop-drop 1 i words, add-one i)
-
-pub same_end : (own words : List ℕ) (i : ℕ) → length own ≤ i → same (drop i own) (drop i words) ≡ true
-unfolding same
-same_end own words i h = rw (drop_of_length-le own h)
+all_same [] words n = refl
+all_same (x ∷ own) words n = rw (word_drop words n, drop-drop 1 n words) (ap (λ (b : Bool). eqb (get_or words n 0) x && b) (all_same own words (n + 1)))
 
 -- ---- four words at a time
 and_four : (p q r s rest : Bool) → p && (q && (r && (s && rest))) ≡ (p && (q && (r && (s && true)))) && rest
@@ -166,21 +159,22 @@ unfolding same
 same_last a words at = rw (word_drop words at) (and_unit (eqb (get_or words at 0) a))
 
 -- ---- places
-place_next : (k i : ℕ) (words : List ℕ) → drop k (drop (i * k) words) ≡ drop ((i + 1) * k) words
-place_next k i words =
-    let e : (i + 1) * k ≡ i * k + k = ap (λ (n : ℕ). n * k) (add-one i) ∙ suc-mul i k in
-    drop-drop k (i * k) words ∙ ap (λ (n : ℕ). drop n words) (sym e)
-
-pub each_step : (test : List ℕ → Bool) (k n : ℕ) (words : List ℕ) (i : ℕ) → i < n
-    → each_place test k (n - i) (drop (i * k) words) ≡ test (drop (i * k) words) && each_place test k (n - (i + 1)) (drop ((i + 1) * k) words)
+pub each_more : (test : List ℕ → Bool) (k n : ℕ) (words : List ℕ) (i : ℕ) → i < n → each_place test k (n - i) words ≡ test words && each_place test k (n - (i + 1)) (drop k words)
 unfolding each_place
-each_step test k n words i h =
-    let e : n - i ≡ suc (n - (i + 1)) = omega arith in
-    rw (e, place_next k i words)
+each_more test k n words i h = let e : n - i ≡ suc (n - (i + 1)) = omega arith in rw e
 
 pub each_end : (test : List ℕ → Bool) (k n : ℕ) (words : List ℕ) (i : ℕ) → n ≤ i → each_place test k (n - i) words ≡ true
 unfolding each_place
 each_end test k n words i h = let e : n - i ≡ 0 = omega arith in rw e
+
+-- the places from a word on, by their numbers
+pub all_places : (test : List ℕ → Bool) (k at n i : ℕ) (words : List ℕ) → list_all (λ (m : ℕ). test (drop (at + m * k) words)) (range_with_len i n) ≡ each_place test k n (drop (at + i * k) words)
+unfolding each_place
+all_places test k at zero i words = refl
+all_places test k at (suc n) i words =
+    let e : at + (i + 1) * k ≡ at + i * k + k = omega arith in
+    let p : drop (at + (i + 1) * k) words ≡ drop k (drop (at + i * k) words) = rw e (sym (drop-drop k (at + i * k) words)) in
+    ap (λ (b : Bool). test (drop (at + i * k) words) && b) (all_places test k at n (i + 1) words ∙ ap (each_place test k n) p)
 
 pub places_length : {A : Type 0} (f : List ℕ → A) (k n : ℕ) (words : List ℕ) → length (places_of f k n words) ≡ n
 unfolding places_of
@@ -211,7 +205,7 @@ later_nil (made []) = refl
 later_nil (made (x ∷ b)) = rw (leb-suc-zero (length b))
 later_nil (refused k) = refl
 
-module _ (overall m : Made) (n : ℕ) (target : List ℕ) (x : Written) (is : no_less n m ≡ overall) where
+module _ (overall m : Made) (n : ℕ) (target : List ℕ) (x : Result ℕ ℕ) (is : no_less n m ≡ overall) where
   pub words_refused : 0 < n → n ≤ 36 → x ≡ answer_of m [] → (record { refusal = lower n x; length = 0 } ≡ flat_written (answer_of overall target)) × (target ≡ later_of overall target)
   words_refused h g e = rw (← is) (refused_words n m target x h g e, refused_target n m target h)
 

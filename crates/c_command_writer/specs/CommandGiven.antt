@@ -1,12 +1,10 @@
 -- What the contracts say by functions: the command that words make, and what is asked of the words. The theorems `command_words_are_answered` and
 -- `command_answers_are_one` fix what they answer (CommandWords.antt).
-use Rattle.std.specs.Prelude.{ℕ, ◌^◌, ◌%◌, Bool, ◌&&◌, List, eqb}
+use Rattle.std.specs.Prelude.{ℕ, ◌^◌, ◌%◌, Bool, ◌&&◌, List, eqb, Some, None, Option}
 use Rattle.command.specs.Command.{array, count_in}
 use Rattle.command.specs.declared.SpliceCommand.{SpliceCommand}
 use Rattle.command.specs.declared.SpliceCommand.TheVariants as command
 use Rattle.command.specs.declared.components.InsertComponent.{InsertComponent}
-use Rattle.splice_time.specs.declared.break_duration.Break.{Break}
-use Rattle.splice_time.specs.declared.break_duration.Break.TheVariants.{Absent, Lasts}
 use Rattle.command.specs.declared.insert.InsertDetail.{InsertDetail}
 use Rattle.command.specs.declared.insert.SpliceInsert.{SpliceInsert}
 use Rattle.command.specs.declared.insert.SpliceDetail.TheVariants as insert
@@ -29,6 +27,7 @@ use Rattle.table.specs.Writing.{Made}
 use Rattle.table.specs.declared.View.{View}
 use Rattle.c_command_writer.specs.CommandWords.{command_words, command_widths, insert_components_in, component_words, component_widths, command_seen}
 use Rattle.c_command_writer.specs.Words.{word, within, same, places_of, each_place, refusal_of, seen_first, no_less}
+use Rattle.splice_time.specs.declared.break_duration.SpliceDuration.{SpliceDuration}
 
 -- ---- the struct that words are
 unfoldable pub mode_in : List ℕ → FlatMode
@@ -77,11 +76,11 @@ view_from v = record { at = v.at; len = v.len }
 unfoldable pub mode_from : FlatMode → SpliceMode
 mode_from m = pick (eqb m.program_splice_flag 1) (Program (time_from m.splice_time)) (Components (m.component_count % 256))
 
-unfoldable pub break_from : FlatBreak → Break
+unfoldable pub break_from : FlatBreak → Option SpliceDuration
 break_from b =
     pick (eqb b.duration_flag 1)
-    (Lasts (record { return_mode = pick (eqb b.auto_return 1) ReturnMode.Automatic ReturnMode.Manual; duration = b.duration }))
-    Absent
+    (Some (record { return_mode = pick (eqb b.auto_return 1) ReturnMode.Automatic ReturnMode.Manual; duration = b.duration }))
+    None
 
 unfoldable pub insert_from : FlatInsert → InsertDetail
 insert_from i =

@@ -1,7 +1,6 @@
 -- What C hands to a writer: words, those of its structs in their order. A word past the end of the slice counts as 0; words past the struct's end are not
 -- looked at.
-use Rattle.std.specs.Prelude.{ℕ, zero, suc, ◌^◌, Bool, true, ◌&&◌, List, [], ◌∷◌, eqb, ltb, get_or, drop}
-use Rattle.bit_stores.specs.declared.Written.{Written}
+use Rattle.std.specs.Prelude.{ℕ, zero, suc, ◌^◌, Bool, true, ◌&&◌, List, [], ◌∷◌, eqb, ltb, get_or, drop, Ok, Err, Result}
 use Rattle.table.specs.Bits.{pick}
 use Rattle.table.specs.Writing.{Made, made, refused}
 use Rattle.c_command_writer.specs.declared.FlatWritten.{FlatWritten}
@@ -25,9 +24,9 @@ each_place test k zero words = true
 each_place test k (suc n) words = test words && each_place test k n (drop k words)
 
 -- ---- the flat form of what a writer answers
-unfoldable pub flat_written : Written → FlatWritten
-flat_written (Written.Wrote n) = record { refusal = 0; length = n }
-flat_written (Written.Refused n) = record { refusal = n; length = 0 }
+unfoldable pub flat_written : Result ℕ ℕ → FlatWritten
+flat_written (Ok n) = record { refusal = 0; length = n }
+flat_written (Err n) = record { refusal = n; length = 0 }
 
 -- ---- for what the contracts say by functions (CommandGiven.antt and the like)
 -- the first n places of an array, each of k words

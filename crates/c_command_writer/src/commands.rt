@@ -19,10 +19,10 @@ use c_section::commands::{FlatBreak, FlatCommand, FlatInsert, FlatMode, flat_com
 use c_section::{FlatTime, FlatView};
 use command::components::{InsertComponent, MAX_COMPONENTS};
 use command::insert::{InsertDetail, SpliceDetail, SpliceInsert, SpliceMode};
-use command::{CommandRead, Private, SpliceCommand};
+use command::{Private, SpliceCommand};
 use command_writer::{write_command, write_command_without_components};
 use names::flags::{NetworkIndicator, ReturnMode};
-use splice_time::break_duration::{Break, SpliceDuration};
+use splice_time::break_duration::SpliceDuration;
 use table::View;
 use table::lent::lies_in;
 
@@ -111,7 +111,7 @@ fn mode_from(m: FlatMode) -> SpliceMode
     SpliceMode::Components((m.component_count % 256) as u8)
 }
 
-fn break_from(b: FlatBreak) -> Break
+fn break_from(b: FlatBreak) -> Option<SpliceDuration>
     ensures { result ≡ break_from b }
 {
     if b.duration_flag == 1 {
@@ -120,12 +120,12 @@ fn break_from(b: FlatBreak) -> Break
         } else {
             ReturnMode::Manual
         };
-        return Break::Lasts(SpliceDuration {
+        return Some(SpliceDuration {
             return_mode,
             duration: b.duration,
         });
     }
-    Break::Absent
+    None
 }
 
 fn insert_from(i: FlatInsert) -> InsertDetail
@@ -337,7 +337,7 @@ fn words_refusal(c: SpliceCommand, words: &[u64], components: &[u64]) -> u64
     if !insert_components_within(count, components) {
         return 32;
     }
-    if !is_flat_command(flat_command_read(CommandRead::Is(c)), words) {
+    if !is_flat_command(flat_command_read(Ok(c)), words) {
         return 33;
     }
     if !own_insert_components(count, components) {

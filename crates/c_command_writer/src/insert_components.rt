@@ -1,10 +1,8 @@
 // The components of an insert: places of three words, after the refusal and the count of their struct.
 ghost use Rattle.std.specs.Prelude.{◌≡◌, ◌≤◌};
 ghost use Rattle.c_command_writer.specs.CommandGiven.{time_from, component_from, components_from, own_component, insert_components_within, own_insert_components};
-ghost use Rattle.c_command_writer.specs.CommandWords.{component_widths};
-ghost use Rattle.c_command_writer.specs.Words.{within};
 
-use crate::{are_within, word_at, words_from};
+use crate::{are_places_within, word_at, words_from};
 use command::components::{InsertComponent, MAX_COMPONENTS, blanks};
 use splice_time::SpliceTime;
 
@@ -53,15 +51,15 @@ fn is_own_component(words: &[u64]) -> bool
 }
 
 // The first `count` in their array, blank past them.
+// (`places_from` of c_descriptor_writer does this of another type. One function for both would take what makes a component as a closure, and its clause would
+// say what each call of that returns: longer than the two loops.)
 pub(crate) fn components_from(count: usize, words: &[u64]) -> [InsertComponent; MAX_COMPONENTS]
     requires { count ≤ 255 }
     ensures { result ≡ components_from count words.now }
 {
     let mut out = blanks();
-    let mut i: usize = 0;
-    while i < count {
+    for i in 0..count {
         out[i] = component_from(words_from(words, FIRST + i * EACH));
-        i += 1;
     }
     out
 }
@@ -72,14 +70,7 @@ pub(crate) fn insert_components_within(count: usize, words: &[u64]) -> bool
     ensures { result ≡ insert_components_within count words.now }
 {
     let widths: [u64; EACH] = [8, 2, 33];
-    let mut i: usize = 0;
-    while i < count {
-        if !are_within(&widths, words_from(words, FIRST + i * EACH)) {
-            return false;
-        }
-        i += 1;
-    }
-    true
+    are_places_within(&widths, count, words_from(words, FIRST))
 }
 
 // Refusal 33 of the first `count`.
@@ -87,12 +78,5 @@ pub(crate) fn own_insert_components(count: usize, words: &[u64]) -> bool
     requires { count ≤ 255 }
     ensures { result ≡ own_insert_components count words.now }
 {
-    let mut i: usize = 0;
-    while i < count {
-        if !is_own_component(words_from(words, FIRST + i * EACH)) {
-            return false;
-        }
-        i += 1;
-    }
-    true
+    (0..count).all(|i| is_own_component(words_from(words, FIRST + i * EACH)))
 }

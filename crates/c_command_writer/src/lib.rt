@@ -2,11 +2,9 @@
 // struct's end are not looked at. Words of which one exceeds its field (32), or that are not those of a value's flat form (33), are not written.
 #![tactic(auto)]
 
-ghost use Rattle.std.specs.Prelude.{[], ◌∷◌, ◌≡◌, ◌^◌, ltb, drop};
-ghost use Rattle.c_command_writer.specs.Words.{word, within, same, flat_written};
+ghost use Rattle.std.specs.Prelude.{[], ◌∷◌, ◌≡◌, ◌^◌, ltb, length, drop};
+ghost use Rattle.c_command_writer.specs.Words.{word, within, same, each_place, flat_written};
 ghost use Rattle.c_command_writer.specs.Private.{lower};
-
-use bit_stores::Written;
 
 pub mod commands;
 pub mod insert_components;
@@ -19,15 +17,15 @@ pub struct FlatWritten {
     pub length: u64,
 }
 
-pub fn flat_written(w: Written) -> FlatWritten
+pub fn flat_written(w: Result<usize, u8>) -> FlatWritten
     ensures { result ≡ flat_written w }
 {
     match w {
-        Written::Wrote(n) => FlatWritten {
+        Ok(n) => FlatWritten {
             refusal: 0,
             length: n as u64,
         },
-        Written::Refused(n) => FlatWritten {
+        Err(n) => FlatWritten {
             refusal: n as u64,
             length: 0,
         },
@@ -35,12 +33,12 @@ pub fn flat_written(w: Written) -> FlatWritten
 }
 
 // The lower of the words' own refusal and of the value's, which was tried on a target without bytes.
-pub fn lower_refusal(refusal: u64, tried: Written) -> FlatWritten
+pub fn lower_refusal(refusal: u64, tried: Result<usize, u8>) -> FlatWritten
     ensures { result ≡ record { refusal = lower refusal tried; length = 0 } }
 {
     match tried {
-        Written::Wrote(_) => FlatWritten { refusal, length: 0 },
-        Written::Refused(n) => {
+        Ok(_) => FlatWritten { refusal, length: 0 },
+        Err(n) => {
             if (n as u64) < refusal {
                 return FlatWritten {
                     refusal: n as u64,
@@ -83,17 +81,27 @@ pub(crate) fn is_within(width: u64, word: u64) -> bool
 pub fn are_within(widths: &[u64], words: &[u64]) -> bool
     ensures { result ≡ within widths.now words.now }
 {
-    let mut i = 0;
-    while i < widths.len() {
-        if !is_within(widths[i], word_at(words, i)) {
+    widths
+        .iter()
+        .enumerate()
+        .all(|(i, width)| is_within(*width, word_at(words, i)))
+}
+
+// Refusal 32 of an array: is each word of its first `count` places, one behind the other, within its width?
+pub fn are_places_within(widths: &[u64], count: usize, words: &[u64]) -> bool
+    ensures { result ≡ each_place (within widths.now) (length widths.now) count words.now }
+{
+    let mut rest = words;
+    for _ in 0..count {
+        if !are_within(widths, rest) {
             return false;
         }
-        i += 1;
+        rest = words_from(rest, widths.len());
     }
     true
 }
 
-// Refusal 32 of four words, without a loop: their places are tested once.
+// Refusal 32 of four words, without a loop: their places are tested once. (No twin of `are_within`: docs/DECISIONS.md has what a loop costs here.)
 pub fn are_four_within(a: u64, b: u64, c: u64, d: u64, words: &[u64]) -> bool
     ensures { result ≡ within (a ∷ b ∷ c ∷ d ∷ []) words.now }
 {
@@ -117,14 +125,9 @@ pub fn are_four_within(a: u64, b: u64, c: u64, d: u64, words: &[u64]) -> bool
 pub fn are_same(own: &[u64], words: &[u64]) -> bool
     ensures { result ≡ same own.now words.now }
 {
-    let mut i = 0;
-    while i < own.len() {
-        if word_at(words, i) != own[i] {
-            return false;
-        }
-        i += 1;
-    }
-    true
+    own.iter()
+        .enumerate()
+        .all(|(i, word)| word_at(words, i) == *word)
 }
 
 // Refusal 33 of four words.

@@ -2,10 +2,10 @@
 #![tactic(auto)]
 
 ghost use Rattle.std.specs.Prelude.{◌≡◌};
-ghost use Rattle.c_daterange.specs.FlatDaterange.{name_number, flat_daterange};
+ghost use Rattle.c_daterange.specs.FlatDaterange.{name_number, flat_numbered, flat_daterange};
 
 use c_section::{FlatView, flat_view};
-use daterange_line::{Cue, Read};
+use daterange_line::{Cue, LineRefusal, Reading};
 
 #[repr(C)]
 #[derive(Clone, Copy)]
@@ -17,6 +17,7 @@ pub struct FlatDaterange {
     pub length: u64,
 }
 
+#[tactic(auto, unfolding(crate::specs::FlatDaterange::name_number))]
 fn name_number(c: Cue) -> u64
     ensures { result ≡ name_number c }
 {
@@ -27,28 +28,35 @@ fn name_number(c: Cue) -> u64
     }
 }
 
-pub fn flat_daterange(x: Read) -> FlatDaterange
-    ensures { result ≡ flat_daterange x }
+// A refusal comes as any number.
+#[tactic(auto, unfolding(crate::specs::FlatDaterange::flat_numbered))]
+pub fn flat_numbered(x: Result<Reading, u8>) -> FlatDaterange
+    ensures { result ≡ flat_numbered x }
 {
     match x {
-        Read::Is(y) => {
-            let id = y.id;
-            let date = y.date;
-            let cue = y.cue;
-            FlatDaterange {
-                refusal: 0,
-                id: flat_view(id),
-                date: flat_view(date),
-                name: name_number(cue),
-                length: y.len as u64,
-            }
-        }
-        Read::Refused(n) => FlatDaterange {
-            refusal: n as u64,
+        Ok(y) => FlatDaterange {
+            refusal: 0,
+            id: flat_view(y.id),
+            date: flat_view(y.date),
+            name: name_number(y.cue),
+            length: y.len as u64,
+        },
+        Err(number) => FlatDaterange {
+            refusal: u64::from(number),
             id: FlatView { at: 0, len: 0 },
             date: FlatView { at: 0, len: 0 },
             name: 0,
             length: 0,
         },
+    }
+}
+
+#[tactic(auto, unfolding(crate::specs::FlatDaterange::flat_daterange))]
+pub fn flat_daterange(x: Result<Reading, LineRefusal>) -> FlatDaterange
+    ensures { result ≡ flat_daterange x }
+{
+    match x {
+        Ok(y) => flat_numbered(Ok(y)),
+        Err(r) => flat_numbered(Err(r.number())),
     }
 }

@@ -15,13 +15,10 @@ use Rattle.descriptor.specs.Segmentation.{blank_component, by_program, count_of,
 use Rattle.descriptor.specs.Full.{filled, of_segmentation}
 use Rattle.descriptor.specs.declared.Descriptor.{Descriptor}
 use Rattle.descriptor.specs.declared.plain.TimeDescriptor.{TimeDescriptor}
-use Rattle.descriptor.specs.declared.segmentation.DeliveryRestrictionFlags.{DeliveryRestrictionFlags}
 use Rattle.descriptor.specs.declared.segmentation.SegmentationComponent.{SegmentationComponent}
 use Rattle.descriptor.specs.declared.segmentation.DescriptorDetail.{DescriptorDetail}
-use Rattle.descriptor.specs.declared.segmentation.SegmentationDuration.{SegmentationDuration}
 use Rattle.descriptor.specs.declared.segmentation.SegmentationDetail.{SegmentationDetail}
 use Rattle.descriptor.specs.declared.segmentation.SegmentationMode.{SegmentationMode}
-use Rattle.descriptor.specs.declared.segmentation.SubSegments.{SubSegments}
 use Rattle.descriptor.specs.declared.full.Beside.{Beside}
 use Rattle.descriptor_measure.specs.Writing.{count_beside, alone, writable_reserved, payload_made, tag_of, identifier_of, descriptor_made}
 use Rattle.descriptor_measure.specs.Private.{components_fields, numbers_fit}
@@ -43,6 +40,7 @@ use Rattle.c_descriptor_writer.specs.ItemWords.{item_words, item_widths, places_
 use Rattle.c_descriptor_writer.proofs.Typed.{TypedMode, TypedSubs, TypedActive}
 use Rattle.c_descriptor_writer.proofs.Own.{step_small, given_is, places_are, places_own, places_fit, bytes_are, bytes_own, filled_length}
 use Rattle.c_descriptor_writer.proofs.Told.{Told, make_told, enveloped_told, enveloped_31, enveloped_unseen, told_as, mode_count, writable_active, active_fit, active_told, cancel_told}
+use Rattle.std.proofs.Common.{Some, None}
 
 -- ---- the descriptor that words make, by its kind
 data Kind (k : ℕ) : Type 0 where
@@ -84,7 +82,7 @@ from_typed s v =
     modes true = tt
     modes false = mod-lt s.component_count (lit< tt)
 
-    subs : (b : Bool) → TypedSubs (pick b (SubSegments.Is (record { sub_segment_num = s.sub_segments.sub_segment_num % 256; sub_segments_expected = s.sub_segments.sub_segments_expected % 256 })) SubSegments.Absent)
+    subs : (b : Bool) → TypedSubs (pick b (Some (record { sub_segment_num = s.sub_segments.sub_segment_num % 256; sub_segments_expected = s.sub_segments.sub_segments_expected % 256 })) None)
     subs true = (mod-lt s.sub_segments.sub_segment_num (lit< tt), mod-lt s.sub_segments.sub_segments_expected (lit< tt))
     subs false = tt
 
@@ -92,11 +90,11 @@ from_typed s v =
     program true = refl
     program false = refl
 
-    lasts : (b : Bool) → b ≡ lasting (pick b (SegmentationDuration.Ticks s.segmentation_duration) SegmentationDuration.Absent)
+    lasts : (b : Bool) → b ≡ lasting (pick b (Some s.segmentation_duration) None)
     lasts true = refl
     lasts false = refl
 
-    free : (b : Bool) → b ≡ unrestricted (pick b DeliveryRestrictionFlags.None (DeliveryRestrictionFlags.DeliveryRestrictions (restrictions_from s.delivery_restrictions)))
+    free : (b : Bool) → b ≡ unrestricted (pick b None (Some (restrictions_from s.delivery_restrictions)))
     free true = refl
     free false = refl
 
@@ -177,7 +175,7 @@ module _ (words : List ℕ) where
     unfolding detail_from segmentation_in item_widths
     active_ticks w = go (eqb (get_or words 12 0) 1)
       where
-        go : (c : Bool) → ticks (pick c (SegmentationDuration.Ticks (get_or words 19 0)) SegmentationDuration.Absent) < 2 ^ 40
+        go : (c : Bool) → ticks (pick c (Some (get_or words 19 0)) None) < 2 ^ 40
         go true = step_small words w 14 (lit< tt)
         go false = lit< tt
 

@@ -9,12 +9,9 @@ use lib.Dec.{eqb, lit<}
 use lib.ListN.{get_or}
 use Rattle.descriptor.specs.Segmentation.{device_of}
 use Rattle.descriptor.specs.declared.Descriptor.{Descriptor}
-use Rattle.descriptor.specs.declared.segmentation.DeliveryRestrictionFlags.{DeliveryRestrictionFlags}
 use Rattle.descriptor.specs.declared.segmentation.DescriptorDetail.{DescriptorDetail}
-use Rattle.descriptor.specs.declared.segmentation.SegmentationDuration.{SegmentationDuration}
 use Rattle.descriptor.specs.declared.segmentation.SegmentationDetail.{SegmentationDetail}
 use Rattle.descriptor.specs.declared.segmentation.SegmentationMode.{SegmentationMode}
-use Rattle.descriptor.specs.declared.segmentation.SubSegments.{SubSegments}
 use Rattle.c_items.specs.FlatItem.{flat_restrictions, flat_sub_segments, active_segmentation, segmentation_head, segmentation_item, flat_descriptor}
 use Rattle.c_items.specs.declared.descriptors.FlatItem.{FlatItem}
 use Rattle.names.specs.Flags.{restrictions_bits, restrictions_of}
@@ -25,6 +22,9 @@ use Rattle.table.specs.declared.View.{View}
 use Rattle.c_descriptor_writer.specs.ItemGiven.{restrictions_in, sub_segments_in, segmentation_in, item_in, restrictions_from, delivery_from, mode_from, duration_from, sub_segments_from, detail_from, descriptor_from, descriptor_given}
 use Rattle.c_descriptor_writer.specs.ItemWords.{item_words}
 use Rattle.c_descriptor_writer.proofs.Typed.{TypedMode, TypedSubs, TypedActive, TypedDetail, Typed}
+use Rattle.std.proofs.Common.{Some, None, Option}
+use Rattle.descriptor.specs.declared.segmentation.DeliveryRestrictions.{DeliveryRestrictions}
+use Rattle.descriptor.specs.declared.segmentation.SubSegment.{SubSegment}
 
 -- ---- the struct that the words of a step are, whatever stands before its item
 pub words_back : (refusal a b c next identifier : ℕ) (f : FlatItem) → item_in (refusal ∷ a ∷ b ∷ c ∷ next ∷ identifier ∷ item_words f) ≡ f
@@ -50,10 +50,10 @@ device_back DeviceRestrictions.RestrictGroup2 = refl
 device_back DeviceRestrictions.None = refl
 
 module _ (event : ℕ) (i : SegmentationDetail) (t : TypedActive i) where
-  delivery_back : (d : DeliveryRestrictionFlags) → i.delivery_restrictions ≡ d → delivery_from (active_segmentation event i) ≡ d
+  delivery_back : (d : Option DeliveryRestrictions) → i.delivery_restrictions ≡ d → delivery_from (active_segmentation event i) ≡ d
   unfolding active_segmentation flat_restrictions restrictions_from
-  delivery_back DeliveryRestrictionFlags.None e = rw (t.free_flag, e)
-  delivery_back (DeliveryRestrictionFlags.DeliveryRestrictions d) e =
+  delivery_back None e = rw (t.free_flag, e)
+  delivery_back (Some d) e =
       rw (t.free_flag, e, flag_back d.web_delivery_allowed_flag, flag_back d.no_regional_blackout_flag, flag_back d.archive_allowed_flag, device_back d.device_restrictions)
 
   mode_back : (m : SegmentationMode) → i.segmentation_mode ≡ m → TypedMode m → mode_from (active_segmentation event i) ≡ m
@@ -61,17 +61,17 @@ module _ (event : ℕ) (i : SegmentationDetail) (t : TypedActive i) where
   mode_back SegmentationMode.Program e h = rw (t.program_flag, e)
   mode_back (SegmentationMode.Component n) e h = rw (t.program_flag, e, mod-eq_of_lt h)
 
-  duration_back : (d : SegmentationDuration) → i.segmentation_duration ≡ d → duration_from (active_segmentation event i) ≡ d
+  duration_back : (d : Option ℕ) → i.segmentation_duration ≡ d → duration_from (active_segmentation event i) ≡ d
   unfolding active_segmentation
-  duration_back SegmentationDuration.Absent e = rw (t.duration_flag, e)
-  duration_back (SegmentationDuration.Ticks n) e = rw (t.duration_flag, e)
+  duration_back None e = rw (t.duration_flag, e)
+  duration_back (Some n) e = rw (t.duration_flag, e)
 
-subs_back : (s : SubSegments) → TypedSubs s → sub_segments_from (flat_sub_segments s) ≡ s
+subs_back : (s : Option SubSegment) → TypedSubs s → sub_segments_from (flat_sub_segments s) ≡ s
 unfolding flat_sub_segments
-subs_back SubSegments.Absent h = refl
-subs_back (SubSegments.Is x) h = rw (mod-eq_of_lt h.0, mod-eq_of_lt h.1)
+subs_back None h = refl
+subs_back (Some x) h = rw (mod-eq_of_lt h.0, mod-eq_of_lt h.1)
 
-uncancelled : (event : ℕ) (i : SegmentationDetail) (bytes : View) (restrictions : DeliveryRestrictionFlags) (mode : SegmentationMode) (duration : SegmentationDuration)
+uncancelled : (event : ℕ) (i : SegmentationDetail) (bytes : View) (restrictions : Option DeliveryRestrictions) (mode : SegmentationMode) (duration : Option ℕ)
     → delivery_from (active_segmentation event i) ≡ restrictions → mode_from (active_segmentation event i) ≡ mode → duration_from (active_segmentation event i) ≡ duration
     → detail_from (active_segmentation event i) bytes
     ≡ record {

@@ -16,7 +16,6 @@ use Rattle.descriptor.specs.declared.segmentation.SegmentationComponent.{Segment
 use Rattle.descriptor.specs.declared.segmentation.DescriptorDetail.{DescriptorDetail}
 use Rattle.descriptor.specs.declared.segmentation.SegmentationDetail.{SegmentationDetail}
 use Rattle.descriptor.specs.declared.segmentation.SegmentationMode.{SegmentationMode}
-use Rattle.descriptor.specs.declared.segmentation.SubSegments.{SubSegments}
 use Rattle.descriptor_measure.specs.Private.{components_fields}
 use Rattle.c_items.specs.FlatItem.{flat_sub_segments, active_segmentation, segmentation_head, segmentation_item, flat_descriptor}
 use Rattle.c_items.specs.declared.descriptors.FlatItem.{FlatItem}
@@ -27,6 +26,8 @@ use Rattle.c_descriptor_writer.specs.ItemGiven.{item_in, descriptor_from, descri
 use Rattle.c_descriptor_writer.specs.ItemWords.{item_words, item_widths, place_widths, tags_and_offsets}
 use Rattle.c_descriptor_writer.proofs.Typed.{TypedMode, TypedSubs, TypedActive, TypedDetail, Typed}
 use Rattle.c_descriptor_writer.proofs.Back.{words_back, item_agree, from_back}
+use Rattle.std.proofs.Common.{Some, None, Option}
+use Rattle.descriptor.specs.declared.segmentation.SubSegment.{SubSegment}
 
 -- ---- word by word
 word_next : (words : List ℕ) (i : ℕ) → get_or (drop 1 words) i 0 ≡ get_or words (suc i) 0
@@ -79,10 +80,10 @@ mode_typed : (m : SegmentationMode) → count_of m < 256 → TypedMode m
 mode_typed SegmentationMode.Program h = tt
 mode_typed (SegmentationMode.Component n) h = h
 
-subs_typed : (s : SubSegments) → (flat_sub_segments s).sub_segment_num < 256 → (flat_sub_segments s).sub_segments_expected < 256 → TypedSubs s
+subs_typed : (s : Option SubSegment) → (flat_sub_segments s).sub_segment_num < 256 → (flat_sub_segments s).sub_segments_expected < 256 → TypedSubs s
 unfolding flat_sub_segments
-subs_typed SubSegments.Absent h g = tt
-subs_typed (SubSegments.Is x) h g = (h, g)
+subs_typed None h g = tt
+subs_typed (Some x) h g = (h, g)
 
 active_typed : (event : ℕ) (i : SegmentationDetail) → writable_detail (DescriptorDetail.Active i) ≡ true → Small (segmentation_item event (DescriptorDetail.Active i)) → (event < 2 ^ 32) × TypedActive i
 unfolding item_words item_widths segmentation_item active_segmentation writable_detail writable_front

@@ -11,10 +11,8 @@ use Rattle.descriptor.specs.Segmentation.{agrees, by_program, count_of, lasting,
 use Rattle.descriptor.specs.declared.segmentation.SegmentationComponent.{SegmentationComponent}
 use Rattle.descriptor.specs.declared.segmentation.SegmentationDescriptor.{SegmentationDescriptor}
 use Rattle.descriptor.specs.declared.segmentation.DescriptorDetail.{DescriptorDetail}
-use Rattle.descriptor.specs.declared.segmentation.SegmentationDuration.{SegmentationDuration}
 use Rattle.descriptor.specs.declared.segmentation.SegmentationDetail.{SegmentationDetail}
 use Rattle.descriptor.specs.declared.segmentation.SegmentationMode.{SegmentationMode}
-use Rattle.descriptor.specs.declared.segmentation.SubSegments.{SubSegments}
 use Rattle.descriptor.specs.declared.full.Beside.{Beside}
 use Rattle.descriptor_measure.proofs.Making.{made_zero}
 use Rattle.descriptor_measure.proofs.Refusals as refusals
@@ -28,6 +26,8 @@ use Rattle.table.specs.Writing as writing
 use Rattle.table.specs.Writing.{Made, made, refused, Field, seen, contents, print, make_of, refusal_in}
 use Rattle.table.specs.declared.View.{View}
 use Rattle.c_descriptor_writer.proofs.Typed.{TypedMode, TypedSubs, TypedActive}
+use Rattle.std.proofs.Common.{Some, None, Option}
+use Rattle.descriptor.specs.declared.segmentation.SubSegment.{SubSegment}
 
 -- ---- what a writer of values says of 31 and 32: are the views seen, and do the numbers fit?
 pub data Told : Bool → Bool → Made → Type 0 where
@@ -101,13 +101,13 @@ fits_mode : (m : SegmentationMode) (cs : List SegmentationComponent) → TypedMo
 fits_mode SegmentationMode.Program cs h e = refl
 fits_mode (SegmentationMode.Component n) cs h e = rw (lt-ltb n 256 h, e)
 
-fits_duration : (d : SegmentationDuration) → ticks d < 2 ^ 40 → writing.within (duration_fields d) ≡ true
-fits_duration SegmentationDuration.Absent h = refl
-fits_duration (SegmentationDuration.Ticks n) h = rw (lt-ltb n (2 ^ 40) h)
+fits_duration : (d : Option ℕ) → ticks d < 2 ^ 40 → writing.within (duration_fields d) ≡ true
+fits_duration None h = refl
+fits_duration (Some n) h = rw (lt-ltb n (2 ^ 40) h)
 
-fits_subs : (s : SubSegments) → TypedSubs s → writing.within (sub_fields s) ≡ true
-fits_subs SubSegments.Absent h = refl
-fits_subs (SubSegments.Is x) h = rw (lt-ltb x.sub_segment_num 256 h.0, lt-ltb x.sub_segments_expected 256 h.1)
+fits_subs : (s : Option SubSegment) → TypedSubs s → writing.within (sub_fields s) ≡ true
+fits_subs None h = refl
+fits_subs (Some x) h = rw (lt-ltb x.sub_segment_num 256 h.0, lt-ltb x.sub_segments_expected 256 h.1)
 
 pub mode_count : (m : SegmentationMode) → TypedMode m → count_of m < 256
 mode_count SegmentationMode.Program h = omega arith

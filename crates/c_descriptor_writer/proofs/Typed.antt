@@ -8,16 +8,17 @@ use Rattle.descriptor.specs.declared.Descriptor.{Descriptor}
 use Rattle.descriptor.specs.declared.segmentation.DescriptorDetail.{DescriptorDetail}
 use Rattle.descriptor.specs.declared.segmentation.SegmentationDetail.{SegmentationDetail}
 use Rattle.descriptor.specs.declared.segmentation.SegmentationMode.{SegmentationMode}
-use Rattle.descriptor.specs.declared.segmentation.SubSegments.{SubSegments}
 use Rattle.names.specs.Segmentation.{segmentation_number, writable_segmentation}
+use Rattle.std.proofs.Common.{Some, None, Option}
+use Rattle.descriptor.specs.declared.segmentation.SubSegment.{SubSegment}
 
 abbrev pub TypedMode : SegmentationMode → Type 0
 TypedMode SegmentationMode.Program = Unit {0}
 TypedMode (SegmentationMode.Component n) = n < 256
 
-abbrev pub TypedSubs : SubSegments → Type 0
-TypedSubs SubSegments.Absent = Unit {0}
-TypedSubs (SubSegments.Is x) = (x.sub_segment_num < 256) × (x.sub_segments_expected < 256)
+abbrev pub TypedSubs : Option SubSegment → Type 0
+TypedSubs None = Unit {0}
+TypedSubs (Some x) = (x.sub_segment_num < 256) × (x.sub_segments_expected < 256)
 
 pub record TypedActive (i : SegmentationDetail) : Type 0 where
   pub mode : TypedMode i.segmentation_mode

@@ -1,18 +1,15 @@
 -- The descriptor that the words of a step make, with what stands beside it, as functions: these are what the contracts say. They are fixed by the theorems
 -- `descriptor_words_are_answered` and `descriptor_answers_are_one`: what is made of words is what `DescriptorAnswer` says, and nothing else.
-use Rattle.std.specs.Prelude.{ℕ, ◌^◌, ◌%◌, Bool, ◌&&◌, List, eqb, drop}
+use Rattle.std.specs.Prelude.{ℕ, ◌^◌, ◌%◌, Bool, ◌&&◌, List, eqb, drop, Some, None, Option}
 use Rattle.descriptor.specs.Segmentation.{device_of}
 use Rattle.descriptor.specs.Full.{filled}
 use Rattle.descriptor.specs.declared.Descriptor.{Descriptor}
 use Rattle.descriptor.specs.declared.Descriptor.TheVariants.{Avail, Dtmf, Segmentation, Time, Reserved}
-use Rattle.descriptor.specs.declared.segmentation.DeliveryRestrictionFlags.{DeliveryRestrictionFlags}
 use Rattle.descriptor.specs.declared.segmentation.DeliveryRestrictions.{DeliveryRestrictions}
 use Rattle.descriptor.specs.declared.segmentation.SegmentationComponent.{SegmentationComponent}
 use Rattle.descriptor.specs.declared.segmentation.DescriptorDetail.{DescriptorDetail}
-use Rattle.descriptor.specs.declared.segmentation.SegmentationDuration.{SegmentationDuration}
 use Rattle.descriptor.specs.declared.segmentation.SegmentationDetail.{SegmentationDetail}
 use Rattle.descriptor.specs.declared.segmentation.SegmentationMode.{SegmentationMode}
-use Rattle.descriptor.specs.declared.segmentation.SubSegments.{SubSegments}
 use Rattle.descriptor.specs.declared.full.Beside.{Beside}
 use Rattle.descriptor_measure.specs.Writing.{count_beside, descriptor_made}
 use Rattle.c_items.specs.FlatItem.{flat_descriptor}
@@ -27,6 +24,7 @@ use Rattle.table.specs.Bits.{pick, big_endian}
 use Rattle.table.specs.Writing.{Made}
 use Rattle.table.specs.declared.View.{View}
 use Rattle.c_descriptor_writer.specs.ItemWords.{item_words, item_widths, places_in, eidr_in, beside_within, item_seen, beside_there}
+use Rattle.descriptor.specs.declared.segmentation.SubSegment.{SubSegment}
 
 -- ---- struct scte35_step: of 33 words, with 0 for those past the end of the slice
 abbrev pub first_word : List ℕ → ℕ
@@ -88,21 +86,21 @@ restrictions_from r =
       device_restrictions = device_of r.device_restrictions;
     }
 
-abbrev pub delivery_from : FlatSegmentation → DeliveryRestrictionFlags
+abbrev pub delivery_from : FlatSegmentation → Option DeliveryRestrictions
 delivery_from s =
-    pick (eqb s.delivery_not_restricted_flag 1) DeliveryRestrictionFlags.None (DeliveryRestrictionFlags.DeliveryRestrictions (restrictions_from s.delivery_restrictions))
+    pick (eqb s.delivery_not_restricted_flag 1) None (Some (restrictions_from s.delivery_restrictions))
 
 abbrev pub mode_from : FlatSegmentation → SegmentationMode
 mode_from s = pick (eqb s.program_segmentation_flag 1) SegmentationMode.Program (SegmentationMode.Component (s.component_count % 256))
 
-abbrev pub duration_from : FlatSegmentation → SegmentationDuration
-duration_from s = pick (eqb s.segmentation_duration_flag 1) (SegmentationDuration.Ticks s.segmentation_duration) SegmentationDuration.Absent
+abbrev pub duration_from : FlatSegmentation → Option ℕ
+duration_from s = pick (eqb s.segmentation_duration_flag 1) (Some s.segmentation_duration) None
 
-abbrev pub sub_segments_from : FlatSubSegments → SubSegments
+abbrev pub sub_segments_from : FlatSubSegments → Option SubSegment
 sub_segments_from s =
     pick (eqb s.present 1)
-    (SubSegments.Is (record { sub_segment_num = s.sub_segment_num % 256; sub_segments_expected = s.sub_segments_expected % 256 }))
-    SubSegments.Absent
+    (Some (record { sub_segment_num = s.sub_segment_num % 256; sub_segments_expected = s.sub_segments_expected % 256 }))
+    None
 
 -- a view, which is that of the item, is the UPID's
 unfoldable pub detail_from : FlatSegmentation → View → SegmentationDetail

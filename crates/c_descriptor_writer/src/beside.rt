@@ -5,9 +5,10 @@ ghost use Rattle.c_descriptor_writer.specs.ItemGiven.{identifier_from, place_fro
 ghost use Rattle.c_descriptor_writer.specs.ItemWords.{places_within, beside_within};
 
 use crate::values::IDENTIFIER;
-use c_command_writer::{are_four_within, are_within, word_at, words_from};
+use c_command_writer::{are_four_within, are_places_within, word_at, words_from};
 use descriptor::full::{Beside, blank_beside};
 use descriptor::segmentation::{MAX_COMPONENTS, SegmentationComponent};
+use std::array;
 
 // Where the first component stands, and how many words each has; where each four bytes of the EIDR stand, and how many words all are.
 pub(crate) const COMPONENTS: usize = 5;
@@ -45,16 +46,15 @@ fn place_from(words: &[u64]) -> SegmentationComponent
 }
 
 // The first `count` components in their array, blank past them.
+// (A twin of `components_from` of c_command_writer, which says why.)
 fn places_from(count: usize, words: &[u64]) -> [SegmentationComponent; MAX_COMPONENTS]
     requires { count ≤ 255 }
     ensures { result ≡ places_from count words.now }
 {
     let blank = blank_beside();
     let mut out = blank.components;
-    let mut i: usize = 0;
-    while i < count {
+    for i in 0..count {
         out[i] = place_from(words_from(words, COMPONENTS + i * EACH));
-        i += 1;
     }
     out
 }
@@ -62,13 +62,7 @@ fn places_from(count: usize, words: &[u64]) -> [SegmentationComponent; MAX_COMPO
 pub(crate) fn eidr_from(words: &[u64]) -> [u8; 12]
     ensures { result ≡ eidr_from words.now }
 {
-    let mut out = [0u8; 12];
-    let mut i: usize = 0;
-    while i < 12 {
-        out[i] = (word_at(words, EIDR + i) % 256) as u8;
-        i += 1;
-    }
-    out
+    array::from_fn(|i| (word_at(words, EIDR + i) % 256) as u8)
 }
 
 pub(crate) fn beside_from(count: usize, words: &[u64]) -> Beside
@@ -87,14 +81,7 @@ fn places_within(count: usize, words: &[u64]) -> bool
     ensures { result ≡ places_within count words.now }
 {
     let widths: [u64; EACH] = [8, 33];
-    let mut i: usize = 0;
-    while i < count {
-        if !are_within(&widths, words_from(words, COMPONENTS + i * EACH)) {
-            return false;
-        }
-        i += 1;
-    }
-    true
+    are_places_within(&widths, count, words_from(words, COMPONENTS))
 }
 
 // Do the words of the components and of the EIDR keep within their widths?

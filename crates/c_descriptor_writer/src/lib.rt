@@ -16,13 +16,13 @@ use crate::values::{
     BYTES_AT, BYTES_LEN, KIND, STEP_WORDS, UPID_TYPE, descriptor_given, is_flat_item,
     is_item_within,
 };
-use bit_stores::Written;
 use c_command_writer::{FlatWritten, flat_written, lower_refusal, word_at};
 use c_items::steps::flat_step;
 use descriptor::Descriptor;
 use descriptor::segmentation::{DescriptorDetail, SegmentationMode};
-use descriptor_loop::{Item, Step};
+use descriptor_loop::Step;
 use descriptor_writer::{write_descriptor, write_descriptor_without_components};
+use std::array;
 use table::View;
 use table::lent::lies_in;
 use upid::UPID_EIDR;
@@ -64,7 +64,7 @@ fn is_own_item(d: Descriptor, words: &[u64]) -> bool
     ensures { result ≡ own_item d words.now }
 {
     let step = flat_step(Step {
-        item: Item::Is(d),
+        item: Some(Ok(d)),
         identifier: [0; 4],
         next: 0,
     });
@@ -146,7 +146,7 @@ fn write_given(
     beside: &[u64],
     lent: &[u8],
     target: &mut [u8],
-) -> Written
+) -> Result<usize, u8>
     requires { count ≤ 255 }
     ensures { Writes (descriptor_made d identifier (beside_from count beside.now) lent.now) target.old target.new result }
 {
@@ -162,13 +162,7 @@ fn write_given(
 fn padded(words: &[u64]) -> [u64; STEP_WORDS]
     ensures { result ≡ padded_words words.now }
 {
-    let mut out = [0u64; STEP_WORDS];
-    let mut i: usize = 0;
-    while i < STEP_WORDS {
-        out[i] = word_at(words, i);
-        i += 1;
-    }
-    out
+    array::from_fn(|i| word_at(words, i))
 }
 
 // A descriptor from the target's first byte on, or a refusal: 31 to 34 or 36.

@@ -13,9 +13,8 @@ use c_section::FlatView;
 use descriptor::Descriptor;
 use descriptor::plain::{AvailDescriptor, DTMFDescriptor, TimeDescriptor};
 use descriptor::segmentation::{
-    DeliveryRestrictionFlags, DeliveryRestrictions, DescriptorDetail, SegmentationDescriptor,
-    SegmentationDetail, SegmentationDuration, SegmentationMode, SegmentationUpid, SubSegment,
-    SubSegments,
+    DeliveryRestrictions, DescriptorDetail, SegmentationDescriptor, SegmentationDetail,
+    SegmentationMode, SegmentationUpid, SubSegment,
 };
 use names::flags::DeviceRestrictions;
 use names::segmentation::SegmentationTypeId;
@@ -263,14 +262,14 @@ fn restrictions_from(r: FlatRestrictions) -> DeliveryRestrictions
     }
 }
 
-fn delivery_from(s: FlatSegmentation) -> DeliveryRestrictionFlags
+fn delivery_from(s: FlatSegmentation) -> Option<DeliveryRestrictions>
     ensures { result ≡ delivery_from s }
 {
     if s.delivery_not_restricted_flag == 1 {
-        return DeliveryRestrictionFlags::None;
+        return None;
     }
     let restrictions = s.delivery_restrictions;
-    DeliveryRestrictionFlags::DeliveryRestrictions(restrictions_from(restrictions))
+    Some(restrictions_from(restrictions))
 }
 
 fn mode_from(s: FlatSegmentation) -> SegmentationMode
@@ -282,25 +281,25 @@ fn mode_from(s: FlatSegmentation) -> SegmentationMode
     SegmentationMode::Component((s.component_count % 256) as u8)
 }
 
-fn duration_from(s: FlatSegmentation) -> SegmentationDuration
+fn duration_from(s: FlatSegmentation) -> Option<u64>
     ensures { result ≡ duration_from s }
 {
     if s.segmentation_duration_flag == 1 {
-        return SegmentationDuration::Ticks(s.segmentation_duration);
+        return Some(s.segmentation_duration);
     }
-    SegmentationDuration::Absent
+    None
 }
 
-fn sub_segments_from(s: FlatSubSegments) -> SubSegments
+fn sub_segments_from(s: FlatSubSegments) -> Option<SubSegment>
     ensures { result ≡ sub_segments_from s }
 {
     if s.present == 1 {
-        return SubSegments::Is(SubSegment {
+        return Some(SubSegment {
             sub_segment_num: (s.sub_segment_num % 256) as u8,
             sub_segments_expected: (s.sub_segments_expected % 256) as u8,
         });
     }
-    SubSegments::Absent
+    None
 }
 
 fn detail_from(s: FlatSegmentation, bytes: View) -> SegmentationDetail
@@ -318,7 +317,7 @@ fn detail_from(s: FlatSegmentation, bytes: View) -> SegmentationDetail
             upid_type: (s.segmentation_upid_type % 256) as u8,
             bytes,
         },
-        segmentation_type_id: SegmentationTypeId::from_id((s.segmentation_type_id % 256) as u8),
+        segmentation_type_id: SegmentationTypeId::from((s.segmentation_type_id % 256) as u8),
         segment_num: (s.segment_num % 256) as u8,
         segments_expected: (s.segments_expected % 256) as u8,
         sub_segments: sub_segments_from(subs),

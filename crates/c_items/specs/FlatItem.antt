@@ -1,5 +1,5 @@
 -- The flat form of a step over a loop, and of what stands beside an item. What belongs to another kind of item is 0.
-use Rattle.std.specs.Prelude.{ℕ, List, [], map}
+use Rattle.std.specs.Prelude.{ℕ, List, [], map, Ok, Err, Some, None, Option, Result}
 use Rattle.table.specs.Bits.{bits_of, field}
 use Rattle.names.specs.Flags.{restrictions_bits}
 use Rattle.names.specs.Segmentation.{segmentation_number}
@@ -7,17 +7,13 @@ use Rattle.descriptor.specs.Segmentation.{count_of, ticks}
 use Rattle.descriptor.specs.declared.Descriptor.{Descriptor}
 use Rattle.descriptor.specs.declared.Descriptor.TheVariants.{Avail, Dtmf, Segmentation, Time, Reserved}
 use Rattle.descriptor.specs.declared.plain.TimeDescriptor.{TimeDescriptor}
-use Rattle.descriptor.specs.declared.segmentation.DeliveryRestrictionFlags.{DeliveryRestrictionFlags}
 use Rattle.descriptor.specs.declared.segmentation.SegmentationComponent.{SegmentationComponent}
 use Rattle.descriptor.specs.declared.segmentation.DescriptorDetail.{DescriptorDetail}
 use Rattle.descriptor.specs.declared.segmentation.DescriptorDetail.TheVariants.{Cancel, Active}
 use Rattle.descriptor.specs.declared.segmentation.SegmentationDetail.{SegmentationDetail}
-use Rattle.descriptor.specs.declared.segmentation.SubSegments.{SubSegments}
 use Rattle.c_section.specs.Flat.{flat_view}
 use Rattle.c_section.specs.declared.FlatView.{FlatView}
 use Rattle.descriptor_loop.specs.Items.{number_of, values_of}
-use Rattle.descriptor_loop.specs.declared.Item.{Item}
-use Rattle.descriptor_loop.specs.declared.Item.TheVariants.{End, Refused, Is}
 use Rattle.descriptor_loop.specs.declared.Step.{Step}
 use Rattle.descriptor_loop.specs.declared.reading.Reading.{Reading}
 use Rattle.table.specs.Lent.{no_view}
@@ -31,12 +27,15 @@ use Rattle.c_items.specs.declared.segmentations.FlatRestrictions.{FlatRestrictio
 use Rattle.c_items.specs.declared.segmentations.FlatSegmentation.{FlatSegmentation}
 use Rattle.c_items.specs.declared.segmentations.FlatSubSegments.{FlatSubSegments}
 use Rattle.c_items.specs.declared.steps.FlatStep.{FlatStep}
+use Rattle.descriptor.specs.declared.segmentation.DeliveryRestrictions.{DeliveryRestrictions}
+use Rattle.descriptor.specs.declared.segmentation.SubSegment.{SubSegment}
+use Rattle.descriptor_loop.specs.declared.ItemRefusal.{ItemRefusal}
 
 -- ---- a segmentation descriptor
-unfoldable pub flat_restrictions : DeliveryRestrictionFlags → FlatRestrictions
-flat_restrictions DeliveryRestrictionFlags.None =
+unfoldable pub flat_restrictions : Option DeliveryRestrictions → FlatRestrictions
+flat_restrictions None =
     record { web_delivery_allowed_flag = 0; no_regional_blackout_flag = 0; archive_allowed_flag = 0; device_restrictions = 0 }
-flat_restrictions (DeliveryRestrictionFlags.DeliveryRestrictions d) =
+flat_restrictions (Some d) =
     record {
       web_delivery_allowed_flag = flag_number d.web_delivery_allowed_flag;
       no_regional_blackout_flag = flag_number d.no_regional_blackout_flag;
@@ -44,9 +43,9 @@ flat_restrictions (DeliveryRestrictionFlags.DeliveryRestrictions d) =
       device_restrictions = restrictions_bits d.device_restrictions;
     }
 
-unfoldable pub flat_sub_segments : SubSegments → FlatSubSegments
-flat_sub_segments SubSegments.Absent = record { present = 0; sub_segment_num = 0; sub_segments_expected = 0 }
-flat_sub_segments (SubSegments.Is x) =
+unfoldable pub flat_sub_segments : Option SubSegment → FlatSubSegments
+flat_sub_segments None = record { present = 0; sub_segment_num = 0; sub_segments_expected = 0 }
+flat_sub_segments (Some x) =
     record { present = 1; sub_segment_num = x.sub_segment_num; sub_segments_expected = x.sub_segments_expected }
 
 unfoldable pub active_segmentation : ℕ → SegmentationDetail → FlatSegmentation
@@ -76,14 +75,14 @@ segmentation_head event cancel =
       program_segmentation_flag = 0;
       segmentation_duration_flag = 0;
       delivery_not_restricted_flag = 0;
-      delivery_restrictions = flat_restrictions DeliveryRestrictionFlags.None;
+      delivery_restrictions = flat_restrictions None;
       component_count = 0;
       segmentation_duration = 0;
       segmentation_upid_type = 0;
       segmentation_type_id = 0;
       segment_num = 0;
       segments_expected = 0;
-      sub_segments = flat_sub_segments SubSegments.Absent;
+      sub_segments = flat_sub_segments None;
     }
 
 -- ---- an item: 0 the end, 1 avail, 2 DTMF, 3 cancelled segmentation, 4 segmentation, 5 time, 6 reserved, 7 refused
@@ -119,21 +118,21 @@ flat_descriptor (Reserved tag bytes) = item_with 6 0 0 (segmentation_head 0 0) n
 unfoldable pub blank_item : ℕ → FlatItem
 blank_item kind = item_with kind 0 0 (segmentation_head 0 0) no_times 0 (flat_view no_view)
 
-unfoldable pub flat_item : Item → FlatItem
-flat_item End = blank_item 0
-flat_item (Refused r) = blank_item 7
-flat_item (Is d) = flat_descriptor d
+unfoldable pub flat_item : Option (Result Descriptor ItemRefusal) → FlatItem
+flat_item None = blank_item 0
+flat_item (Some (Err r)) = blank_item 7
+flat_item (Some (Ok d)) = flat_descriptor d
 
 -- ---- a step
-unfoldable pub refusal_in : Item → ℕ
-refusal_in End = 0
-refusal_in (Refused r) = number_of r
-refusal_in (Is d) = 0
+unfoldable pub refusal_in : Option (Result Descriptor ItemRefusal) → ℕ
+refusal_in None = 0
+refusal_in (Some (Err r)) = number_of r
+refusal_in (Some (Ok d)) = 0
 
-unfoldable pub values_in : Item → List ℕ
-values_in End = three []
-values_in (Refused r) = three (values_of r)
-values_in (Is d) = three []
+unfoldable pub values_in : Option (Result Descriptor ItemRefusal) → List ℕ
+values_in None = three []
+values_in (Some (Err r)) = three (values_of r)
+values_in (Some (Ok d)) = three []
 
 -- the identifier's four bytes as a number
 unfoldable pub flat_step : Step → FlatStep

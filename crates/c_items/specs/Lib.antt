@@ -1,3 +1,2 @@
 pub mod FlatUpid
 pub mod FlatItem
-pub mod Private

@@ -1,13 +1,13 @@
 // What stands beside an item: the components and the EIDR of a segmentation descriptor.
 ghost use Rattle.std.specs.Prelude.{◌≡◌, map};
 ghost use Rattle.c_items.specs.FlatItem.{flat_component, flat_beside};
-ghost use Rattle.c_items.specs.Private.{no_components};
 
 use crate::descriptors::flat_item;
 use crate::steps::{refusal_number, refusal_values};
 use crate::upids::flat_eidr;
 use descriptor::segmentation::{MAX_COMPONENTS, SegmentationComponent};
 use descriptor_loop::reading::Reading;
+use std::array;
 
 #[repr(C)]
 #[derive(Clone, Copy)]
@@ -36,28 +36,13 @@ fn flat_component(c: SegmentationComponent) -> FlatSegmentationComponent
     }
 }
 
-fn no_components() -> [FlatSegmentationComponent; MAX_COMPONENTS]
-    ensures { result ≡ no_components }
-{
-    [FlatSegmentationComponent {
-        component_tag: 0,
-        pts_offset: 0,
-    }; MAX_COMPONENTS]
-}
-
+// `from_fn` and not the array's `map`, which takes four times the instructions.
 fn flat_components(
     cs: [SegmentationComponent; MAX_COMPONENTS],
 ) -> [FlatSegmentationComponent; MAX_COMPONENTS]
     ensures { result ≡ map flat_component cs }
 {
-    let mut out = no_components();
-    let mut i: usize = 0;
-    while i < MAX_COMPONENTS {
-        let c = cs[i];
-        out[i] = flat_component(c);
-        i += 1;
-    }
-    out
+    array::from_fn(|i| flat_component(cs[i]))
 }
 
 pub fn flat_beside(reading: Reading) -> FlatBeside

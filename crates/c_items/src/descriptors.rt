@@ -9,7 +9,7 @@ use c_section::{FlatView, flat_view};
 use descriptor::Descriptor;
 use descriptor::plain::{AvailDescriptor, DTMFDescriptor, TimeDescriptor};
 use descriptor::segmentation::{DescriptorDetail, SegmentationDetail};
-use descriptor_loop::Item;
+use descriptor_loop::ItemRefusal;
 use table::View;
 
 #[repr(C)]
@@ -117,13 +117,13 @@ fn reserved_item(tag: u8, private_bytes: View) -> FlatItem
 }
 
 // Each arm returns: its words are then stored where they go, and are not merged with those of the other arms.
-pub(crate) fn flat_item(item: Item) -> FlatItem
+pub(crate) fn flat_item(item: Option<Result<Descriptor, ItemRefusal>>) -> FlatItem
     ensures { result ≡ flat_item item }
 {
     match item {
-        Item::End => return blank_item(0),
-        Item::Refused(_) => return blank_item(7),
-        Item::Is(d) => match d {
+        None => return blank_item(0),
+        Some(Err(_)) => return blank_item(7),
+        Some(Ok(d)) => match d {
             Descriptor::Avail(x) => return avail_item(x),
             Descriptor::Dtmf(x) => return dtmf_item(x),
             Descriptor::Segmentation(x) => {

@@ -5,8 +5,7 @@ ghost use Rattle.c_items.specs.FlatItem.{flat_restrictions, flat_sub_segments, s
 
 use c_section::flat_flag;
 use descriptor::segmentation::{
-    DeliveryRestrictionFlags, SegmentationDetail, SegmentationDuration, SegmentationMode,
-    SubSegments,
+    DeliveryRestrictions, SegmentationDetail, SegmentationMode, SubSegment,
 };
 
 #[repr(C)]
@@ -45,38 +44,38 @@ pub struct FlatSegmentation {
     pub sub_segments: FlatSubSegments,
 }
 
-fn flat_restrictions(flags: DeliveryRestrictionFlags) -> FlatRestrictions
+fn flat_restrictions(flags: Option<DeliveryRestrictions>) -> FlatRestrictions
     ensures { result ≡ flat_restrictions flags }
 {
     match flags {
-        DeliveryRestrictionFlags::None => FlatRestrictions {
+        None => FlatRestrictions {
             web_delivery_allowed_flag: 0,
             no_regional_blackout_flag: 0,
             archive_allowed_flag: 0,
             device_restrictions: 0,
         },
-        DeliveryRestrictionFlags::DeliveryRestrictions(d) => {
+        Some(d) => {
             let devices = d.device_restrictions;
             FlatRestrictions {
                 web_delivery_allowed_flag: flat_flag(d.web_delivery_allowed_flag),
                 no_regional_blackout_flag: flat_flag(d.no_regional_blackout_flag),
                 archive_allowed_flag: flat_flag(d.archive_allowed_flag),
-                device_restrictions: devices.bits() as u64,
+                device_restrictions: u8::from(devices) as u64,
             }
         }
     }
 }
 
-fn flat_sub_segments(s: SubSegments) -> FlatSubSegments
+fn flat_sub_segments(s: Option<SubSegment>) -> FlatSubSegments
     ensures { result ≡ flat_sub_segments s }
 {
     match s {
-        SubSegments::Absent => FlatSubSegments {
+        None => FlatSubSegments {
             present: 0,
             sub_segment_num: 0,
             sub_segments_expected: 0,
         },
-        SubSegments::Is(x) => FlatSubSegments {
+        Some(x) => FlatSubSegments {
             present: 1,
             sub_segment_num: x.sub_segment_num as u64,
             sub_segments_expected: x.sub_segments_expected as u64,
@@ -84,12 +83,12 @@ fn flat_sub_segments(s: SubSegments) -> FlatSubSegments
     }
 }
 
-fn duration(d: SegmentationDuration) -> u64
+fn duration(d: Option<u64>) -> u64
     ensures { result ≡ ticks d }
 {
     match d {
-        SegmentationDuration::Absent => 0,
-        SegmentationDuration::Ticks(t) => t,
+        None => 0,
+        Some(t) => t,
     }
 }
 
@@ -112,14 +111,14 @@ pub(crate) fn segmentation_head(event: u64, cancel: u64) -> FlatSegmentation
         program_segmentation_flag: 0,
         segmentation_duration_flag: 0,
         delivery_not_restricted_flag: 0,
-        delivery_restrictions: flat_restrictions(DeliveryRestrictionFlags::None),
+        delivery_restrictions: flat_restrictions(None),
         component_count: 0,
         segmentation_duration: 0,
         segmentation_upid_type: 0,
         segmentation_type_id: 0,
         segment_num: 0,
         segments_expected: 0,
-        sub_segments: flat_sub_segments(SubSegments::Absent),
+        sub_segments: flat_sub_segments(None),
     }
 }
 
@@ -142,7 +141,7 @@ pub(crate) fn active_segmentation(event: u64, i: SegmentationDetail) -> FlatSegm
         component_count: component_count(mode),
         segmentation_duration: duration(lasts),
         segmentation_upid_type: upid.upid_type as u64,
-        segmentation_type_id: type_id.id() as u64,
+        segmentation_type_id: u8::from(type_id) as u64,
         segment_num: i.segment_num as u64,
         segments_expected: i.segments_expected as u64,
         sub_segments: flat_sub_segments(sub_segments),

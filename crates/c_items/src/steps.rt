@@ -4,7 +4,8 @@ ghost use Rattle.c_items.specs.FlatItem.{refusal_in, values_in, flat_step};
 
 use crate::descriptors::{FlatItem, flat_item};
 use crate::refusals::{item_number, item_values};
-use descriptor_loop::{Item, Step};
+use descriptor::Descriptor;
+use descriptor_loop::{ItemRefusal, Step};
 use table::numbers::big_endian;
 
 // The identifier is that of a reserved descriptor, 0 with any other item.
@@ -18,23 +19,23 @@ pub struct FlatStep {
     pub item: FlatItem,
 }
 
-pub(crate) fn refusal_number(item: Item) -> u64
+pub(crate) fn refusal_number(item: Option<Result<Descriptor, ItemRefusal>>) -> u64
     ensures { result ≡ refusal_in item }
 {
     match item {
-        Item::End => 0,
-        Item::Refused(r) => item_number(r),
-        Item::Is(_) => 0,
+        None => 0,
+        Some(Err(r)) => item_number(r),
+        Some(Ok(_)) => 0,
     }
 }
 
-pub(crate) fn refusal_values(item: Item) -> [u64; 3]
+pub(crate) fn refusal_values(item: Option<Result<Descriptor, ItemRefusal>>) -> [u64; 3]
     ensures { result ≡ values_in item }
 {
     match item {
-        Item::End => [0, 0, 0],
-        Item::Refused(r) => item_values(r),
-        Item::Is(_) => [0, 0, 0],
+        None => [0, 0, 0],
+        Some(Err(r)) => item_values(r),
+        Some(Ok(_)) => [0, 0, 0],
     }
 }
 

@@ -3,7 +3,8 @@ ghost use Rattle.std.specs.Prelude.{◌≡◌, map};
 ghost use Rattle.c_items.specs.FlatUpid.{flat_part, no_parts, flat_upid};
 
 use crate::refusals::{number, values};
-use upid::{MAX_PARTS, Part, PartList, Upid, UpidRead};
+use std::array;
+use upid::{MAX_PARTS, Part, PartList, Upid};
 
 #[repr(C)]
 #[derive(Clone, Copy)]
@@ -37,6 +38,7 @@ fn flat_part(p: Part) -> FlatPart
     }
 }
 
+// The C interface has a blank array beside a refusal.
 fn no_parts() -> [FlatPart; MAX_PARTS]
     ensures { result ≡ no_parts }
 {
@@ -48,29 +50,17 @@ fn no_parts() -> [FlatPart; MAX_PARTS]
     }; MAX_PARTS]
 }
 
+// `from_fn` and not the array's `map`, which takes four times the instructions.
 fn flat_parts(ps: [Part; MAX_PARTS]) -> [FlatPart; MAX_PARTS]
     ensures { result ≡ map flat_part ps }
 {
-    let mut out = no_parts();
-    let mut i: usize = 0;
-    while i < MAX_PARTS {
-        let p = ps[i];
-        out[i] = flat_part(p);
-        i += 1;
-    }
-    out
+    array::from_fn(|i| flat_part(ps[i]))
 }
 
 pub(crate) fn flat_eidr(e: [u8; 12]) -> [u64; 12]
     ensures { result ≡ e }
 {
-    let mut out = [0u64; 12];
-    let mut i: usize = 0;
-    while i < 12 {
-        out[i] = e[i] as u64;
-        i += 1;
-    }
-    out
+    array::from_fn(|i| u64::from(e[i]))
 }
 
 pub fn flat_upid(u: Upid) -> FlatUpid
@@ -78,7 +68,7 @@ pub fn flat_upid(u: Upid) -> FlatUpid
 {
     let read = u.read;
     match read {
-        UpidRead::Fine(upid_type) => {
+        Ok(upid_type) => {
             let eidr = u.eidr;
             let list = u.list;
             let parts = list.parts;
@@ -91,7 +81,7 @@ pub fn flat_upid(u: Upid) -> FlatUpid
                 parts: flat_parts(parts),
             }
         }
-        UpidRead::Refused(r) => FlatUpid {
+        Err(r) => FlatUpid {
             refusal: number(r),
             values: values(r),
             upid_type: 0,

@@ -3,12 +3,10 @@
 #![tactic(auto)]
 
 ghost use Rattle.std.specs.Prelude.{◌≡◌, get_or, set};
-ghost use Rattle.transport_packet.specs.Packet.{number_of};
 ghost use Rattle.transport.specs.Assembler.{fresh_assembler, holding, fed_of, taken_of};
 ghost use Rattle.c_packet.specs.PacketWords.{state_in, kept_in, fed_number, kept_fed, taken_number, kept_taken};
 
-use transport::{Assembler, Fed, Taken, feed, take};
-use transport_packet::packet::Refusal;
+use transport::Assembler;
 
 // The state's words, and how many they are.
 const PID: usize = 0;
@@ -21,29 +19,15 @@ const AT: usize = 3;
 
 const STATE_WORDS: usize = 4;
 
-fn number(r: Refusal) -> u64
-    ensures { result ≡ number_of r }
-{
-    match r {
-        Refusal::NotAPacket => return 71,
-        Refusal::OtherPid => return 72,
-        Refusal::Scrambled => return 73,
-        Refusal::PayloadOutside => return 74,
-        Refusal::SectionLengthTooLarge => return 75,
-    }
-}
-
 // The word at a place, 0 past the end.
 fn word_at(words: &[u64], at: usize) -> usize
     ensures { result ≡ get_or words.now at 0 }
 {
-    if at < words.len() {
-        return words[at] as usize;
-    }
-    0
+    words.get(at).map_or(0, |w| *w as usize)
 }
 
-// No word changes past the end.
+// No word changes past the end. (By `get_mut` two goals stayed open: `returns-in-Some`, `returns-in_default`.)
+#[tactic(auto, using(crate::proofs::Words::set_past))]
 fn put_word(words: &mut [u64], at: usize, v: usize)
     ensures { words.new ≡ set words.old at v }
 {
@@ -72,6 +56,7 @@ fn state_in(words: &[u64]) -> Assembler
     }
 }
 
+#[tactic(auto, using(crate::proofs::Words::four_set))]
 fn keep(words: &mut [u64], a: Assembler)
     ensures { words.new ≡ kept_in words.old a }
 {
@@ -89,6 +74,7 @@ fn keep(words: &mut [u64], a: Assembler)
 }
 
 // What `take` changes of the state: the PID and the counter stay.
+#[tactic(auto, using(crate::proofs::Words::two_set))]
 fn keep_place(words: &mut [u64], held: usize, at: usize)
     ensures { words.new ≡ kept_in words.old (holding (state_in words.old) held at) }
 {
@@ -105,40 +91,38 @@ fn keep_place(words: &mut [u64], held: usize, at: usize)
 pub fn start_words(pid: u64, words: &mut [u64])
     ensures { words.new ≡ kept_in words.old (fresh_assembler pid) }
 {
-    keep(words, transport::fresh(pid as usize))
+    keep(words, Assembler::new(pid as usize))
 }
 
 // Takes a packet in: 0, or the number of its refusal, with which no word and no byte of the buffer changes.
+#[tactic(auto, unfolding(crate::specs::PacketWords::fed_number, crate::specs::PacketWords::kept_fed))]
 pub fn feed_words(words: &mut [u64], packet: &[u8], buffer: &mut [u8]) -> u64
     ensures answer { result ≡ fed_number (fed_of (state_in words.old) packet.now buffer.old).answer }
     ensures state { words.new ≡ kept_fed words.old (fed_of (state_in words.old) packet.now buffer.old).answer }
     ensures bytes { buffer.new ≡ (fed_of (state_in words.old) packet.now buffer.old).buffer }
 {
-    let fed = feed(state_in(words), packet, buffer);
-    match fed {
-        Fed::Is(a) => {
+    let mut a = state_in(words);
+    match a.feed(packet, buffer) {
+        Ok(()) => {
             keep(words, a);
-            return 0;
+            0
         }
-        Fed::Refused(r) => return number(r),
+        Err(r) => u64::from(r.number()),
     }
 }
 
 // The length of the next section that the packet finishes, which stands at the buffer's start; or 0.
+#[tactic(auto, using(transport::proofs::Answers::take_keeps), unfolding(crate::specs::PacketWords::taken_number, crate::specs::PacketWords::kept_taken))]
 pub fn take_words(words: &mut [u64], packet: &[u8], buffer: &mut [u8]) -> u64
     ensures answer { result ≡ taken_number (taken_of (state_in words.old) packet.now buffer.old).answer }
     ensures state { words.new ≡ kept_taken words.old (taken_of (state_in words.old) packet.now buffer.old).answer }
     ensures bytes { buffer.new ≡ (taken_of (state_in words.old) packet.now buffer.old).buffer }
 {
-    let taken = take(state_in(words), packet, buffer);
-    match taken {
-        Taken::Section(size, a) => {
-            keep_place(words, a.held, a.at);
-            return size as u64;
-        }
-        Taken::Done(a) => {
-            keep_place(words, a.held, a.at);
-            return 0;
-        }
+    let mut a = state_in(words);
+    let size = a.take(packet, buffer);
+    keep_place(words, a.held, a.at);
+    match size {
+        Some(size) => size as u64,
+        None => 0,
     }
 }

@@ -6,7 +6,6 @@ use Rattle.header.specs.Header.{header_of}
 use Rattle.header.proofs.Headers.{header_named, header_missing}
 use Rattle.header_numbers.specs.Numbers.{numbers_read}
 use Rattle.header_numbers.specs.declared.HeaderNumbers.{HeaderNumbers}
-use Rattle.header_numbers.specs.declared.NumbersRead.{NumbersRead}
 use Rattle.names.specs.Algorithm.{algorithm_number, algorithm_of}
 use Rattle.names.specs.Command.{command_number, command_type_of}
 use Rattle.names.proofs.Algorithms.{algorithm_laws}
@@ -14,13 +13,14 @@ use Rattle.names.proofs.Commands.{command_laws}
 use Rattle.table.specs.Table.{flag_number}
 use Rattle.c_section.specs.Flat.{flat_header, no_header, flat_header_read}
 use Rattle.c_section.specs.declared.headers.FlatHeader.{FlatHeader}
+use Rattle.std.proofs.Common.{Some, None}
 
 module _ (s : List ℕ) where
-  pub flat_too_short : (h : FlatHeader) → NumbersRead.NoHeader ≡ numbers_read s → h ≡ no_header 5 → h ≡ flat_header_read (header_of s)
+  pub flat_too_short : (h : FlatHeader) → None ≡ numbers_read s → h ≡ no_header 5 → h ≡ flat_header_read (header_of s)
   unfolding flat_header_read
   flat_too_short h short e = rw (sym (header_missing s short)) e
 
-  pub flat_numbers : (n : HeaderNumbers) (encrypted : ℕ) → NumbersRead.Numbers n ≡ numbers_read s → encrypted ≡ flag_number n.encrypted_packet
+  pub flat_numbers : (n : HeaderNumbers) (encrypted : ℕ) → Some n ≡ numbers_read s → encrypted ≡ flag_number n.encrypted_packet
       → record {
         refusal = 0;
         protocol_version = n.protocol_version;

@@ -1,11 +1,8 @@
 -- The flat forms of readings: structs of 64-bit words. A named number is its number, a flag 0 or 1; 0 stands where there is nothing.
-use Rattle.std.specs.Prelude.{ℕ}
+use Rattle.std.specs.Prelude.{ℕ, Ok, Err, Some, None, Option, Result}
 use Rattle.table.specs.declared.View.{View}
 use Rattle.header.specs.Header.{number_of}
-use Rattle.header.specs.declared.header.HeaderRead.{HeaderRead}
-use Rattle.header.specs.declared.header.HeaderRead.TheVariants.{Header, NoHeader}
 use Rattle.header.specs.declared.header.SpliceInfoHeader.{SpliceInfoHeader}
-use Rattle.splice_time.specs.declared.AdjustedTime.{AdjustedTime}
 use Rattle.splice_time.specs.declared.SpliceTime.{SpliceTime}
 use Rattle.splice_time.specs.declared.SpliceTime.TheVariants.{Immediate, Unspecified, At}
 use Rattle.names.specs.Algorithm.{algorithm_number}
@@ -15,6 +12,7 @@ use Rattle.c_section.specs.declared.FlatTime.{FlatTime}
 use Rattle.c_section.specs.declared.FlatView.{FlatView}
 use Rattle.c_section.specs.declared.headers.FlatAdjusted.{FlatAdjusted}
 use Rattle.c_section.specs.declared.headers.FlatHeader.{FlatHeader}
+use Rattle.splice_time.specs.declared.TooLarge.{TooLarge}
 
 abbrev pub flat_view : View → FlatView
 flat_view v = record { at = v.at; len = v.len }
@@ -57,12 +55,12 @@ no_header refusal =
       splice_command_type = 0;
     }
 
-unfoldable pub flat_header_read : HeaderRead → FlatHeader
-flat_header_read (Header h) = flat_header h
-flat_header_read NoHeader = no_header (number_of NoHeader)
+unfoldable pub flat_header_read : Option SpliceInfoHeader → FlatHeader
+flat_header_read (Some h) = flat_header h
+flat_header_read None = no_header (number_of None)
 
 -- ---- an adjusted time, "otherwise none", or refusal 32
-unfoldable pub flat_adjusted : AdjustedTime → FlatAdjusted
-flat_adjusted (AdjustedTime.At t) = record { refusal = 0; kind = 3; ticks = t }
-flat_adjusted AdjustedTime.Nothing = record { refusal = 0; kind = 0; ticks = 0 }
-flat_adjusted AdjustedTime.TooLarge = record { refusal = 32; kind = 0; ticks = 0 }
+unfoldable pub flat_adjusted : Result (Option ℕ) TooLarge → FlatAdjusted
+flat_adjusted (Ok (Some t)) = record { refusal = 0; kind = 3; ticks = t }
+flat_adjusted (Ok None) = record { refusal = 0; kind = 0; ticks = 0 }
+flat_adjusted (Err e) = record { refusal = 32; kind = 0; ticks = 0 }

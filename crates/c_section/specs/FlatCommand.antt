@@ -1,14 +1,10 @@
 -- The flat form of a command, and of an insert's components. What belongs to another type is 0.
-use Rattle.std.specs.Prelude.{ℕ, List, map, replicate}
+use Rattle.std.specs.Prelude.{ℕ, List, map, replicate, Ok, Err, Some, None, Option, Result}
 use Rattle.command.specs.Command.{number_of, type_of, count_in}
 use Rattle.command.specs.Insert.{insert_of}
-use Rattle.command.specs.declared.CommandRead.{CommandRead}
-use Rattle.command.specs.declared.CommandRead.TheVariants.{Is, UnknownType, Malformed}
 use Rattle.command.specs.declared.SpliceCommand.{SpliceCommand}
 use Rattle.command.specs.declared.SpliceCommand.TheVariants as command
 use Rattle.command.specs.declared.components.InsertComponent.{InsertComponent}
-use Rattle.splice_time.specs.declared.break_duration.Break.{Break}
-use Rattle.splice_time.specs.declared.break_duration.Break.TheVariants.{Absent, Lasts}
 use Rattle.command.specs.declared.insert.InsertDetail.{InsertDetail}
 use Rattle.command.specs.declared.insert.SpliceInsert.{SpliceInsert}
 use Rattle.command.specs.declared.insert.SpliceDetail.{SpliceDetail}
@@ -26,15 +22,17 @@ use Rattle.c_section.specs.declared.commands.FlatInsert.{FlatInsert}
 use Rattle.c_section.specs.declared.commands.FlatMode.{FlatMode}
 use Rattle.c_section.specs.declared.components.FlatInsertComponent.{FlatInsertComponent}
 use Rattle.c_section.specs.declared.components.FlatInsertComponents.{FlatInsertComponents}
+use Rattle.command.specs.declared.CommandRefusal.{CommandRefusal}
+use Rattle.splice_time.specs.declared.break_duration.SpliceDuration.{SpliceDuration}
 
 -- ---- an insert: by program, at a time; or by as many components
 unfoldable pub flat_mode : SpliceMode → FlatMode
 flat_mode (Program t) = record { program_splice_flag = 1; splice_time = flat_time t; component_count = 0 }
 flat_mode (Components n) = record { program_splice_flag = 0; splice_time = no_time; component_count = n }
 
-unfoldable pub flat_break : Break → FlatBreak
-flat_break Absent = record { duration_flag = 0; auto_return = 0; duration = 0 }
-flat_break (Lasts d) = record { duration_flag = 1; auto_return = return_flag d.return_mode; duration = d.duration }
+unfoldable pub flat_break : Option SpliceDuration → FlatBreak
+flat_break None = record { duration_flag = 0; auto_return = 0; duration = 0 }
+flat_break (Some d) = record { duration_flag = 1; auto_return = return_flag d.return_mode; duration = d.duration }
 
 -- with the event's id, whether it is cancelled, and the reserved bits
 unfoldable pub active_insert : ℕ → ℕ → ℕ → InsertDetail → FlatInsert
@@ -84,10 +82,10 @@ flat_command (command.TimeSignal t) = command_with 0 (type_of (command.TimeSigna
 flat_command command.BandwidthReservation = no_command 0 (type_of command.BandwidthReservation)
 flat_command (command.PrivateCommand p) = command_with 0 (type_of (command.PrivateCommand p)) (insert_head 0 0 0) no_time p.identifier (flat_view p.private_bytes)
 
-unfoldable pub flat_command_read : CommandRead → FlatCommand
-flat_command_read (Is c) = flat_command c
-flat_command_read UnknownType = no_command (number_of UnknownType) 0
-flat_command_read Malformed = no_command (number_of Malformed) 0
+unfoldable pub flat_command_read : Result SpliceCommand CommandRefusal → FlatCommand
+flat_command_read (Ok c) = flat_command c
+flat_command_read (Err CommandRefusal.UnknownType) = no_command (number_of (Err CommandRefusal.UnknownType)) 0
+flat_command_read (Err CommandRefusal.Malformed) = no_command (number_of (Err CommandRefusal.Malformed)) 0
 
 -- ---- the components of an insert, in their array
 unfoldable pub flat_component : InsertComponent → FlatInsertComponent
@@ -96,7 +94,7 @@ flat_component c = record { component_tag = c.component_tag; splice_time = flat_
 unfoldable pub no_components : List FlatInsertComponent
 no_components = replicate 255 (record { component_tag = 0; splice_time = no_time })
 
-unfoldable pub flat_insert_components : CommandRead → List InsertComponent → FlatInsertComponents
-flat_insert_components (Is c) cs = record { refusal = 0; count = count_in c; components = map flat_component cs }
-flat_insert_components UnknownType cs = record { refusal = number_of UnknownType; count = 0; components = no_components }
-flat_insert_components Malformed cs = record { refusal = number_of Malformed; count = 0; components = no_components }
+unfoldable pub flat_insert_components : Result SpliceCommand CommandRefusal → List InsertComponent → FlatInsertComponents
+flat_insert_components (Ok c) cs = record { refusal = 0; count = count_in c; components = map flat_component cs }
+flat_insert_components (Err CommandRefusal.UnknownType) cs = record { refusal = number_of (Err CommandRefusal.UnknownType); count = 0; components = no_components }
+flat_insert_components (Err CommandRefusal.Malformed) cs = record { refusal = number_of (Err CommandRefusal.Malformed); count = 0; components = no_components }

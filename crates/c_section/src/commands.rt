@@ -4,8 +4,8 @@ ghost use Rattle.c_section.specs.FlatCommand.{flat_mode, flat_break, insert_head
 
 use crate::{FlatTime, FlatView, flat_time, flat_view};
 use command::insert::{InsertDetail, SpliceDetail, SpliceInsert, SpliceMode};
-use command::{CommandRead, SpliceCommand};
-use splice_time::break_duration::Break;
+use command::{CommandRefusal, SpliceCommand, number};
+use splice_time::break_duration::SpliceDuration;
 
 // By program, at a time; or by as many components.
 #[repr(C)]
@@ -68,20 +68,20 @@ fn flat_mode(m: SpliceMode) -> FlatMode
     }
 }
 
-fn flat_break(b: Break) -> FlatBreak
+fn flat_break(b: Option<SpliceDuration>) -> FlatBreak
     ensures { result ≡ flat_break b }
 {
     match b {
-        Break::Absent => FlatBreak {
+        None => FlatBreak {
             duration_flag: 0,
             auto_return: 0,
             duration: 0,
         },
-        Break::Lasts(d) => {
+        Some(d) => {
             let mode = d.return_mode;
             FlatBreak {
                 duration_flag: 1,
-                auto_return: mode.flag() as u64,
+                auto_return: u8::from(mode) as u64,
                 duration: d.duration,
             }
         }
@@ -102,7 +102,7 @@ fn insert_head(event: u64, cancel: u64, reserved: u64) -> FlatInsert
             splice_time: FlatTime { kind: 0, ticks: 0 },
             component_count: 0,
         },
-        break_duration: flat_break(Break::Absent),
+        break_duration: flat_break(None),
         unique_program_id: 0,
         avail_num: 0,
         avails_expected: 0,
@@ -119,7 +119,7 @@ fn active_insert(event: u64, reserved: u64, i: InsertDetail) -> FlatInsert
         splice_event_id: event,
         splice_event_cancel_indicator: 0,
         reserved,
-        out_of_network_indicator: network.flag() as u64,
+        out_of_network_indicator: u8::from(network) as u64,
         mode: flat_mode(mode),
         break_duration: flat_break(duration),
         unique_program_id: i.unique_program_id as u64,
@@ -187,12 +187,12 @@ pub(crate) fn flat_command(c: SpliceCommand) -> FlatCommand
     }
 }
 
-pub fn flat_command_read(read: CommandRead) -> FlatCommand
+pub fn flat_command_read(read: Result<SpliceCommand, CommandRefusal>) -> FlatCommand
     ensures { result ≡ flat_command_read read }
 {
     match read {
-        CommandRead::Is(c) => flat_command(c),
-        CommandRead::UnknownType => no_command(read.number() as u64, 0),
-        CommandRead::Malformed => no_command(read.number() as u64, 0),
+        Ok(c) => flat_command(c),
+        Err(CommandRefusal::UnknownType) => no_command(number(read) as u64, 0),
+        Err(CommandRefusal::Malformed) => no_command(number(read) as u64, 0),
     }
 }

@@ -4,8 +4,9 @@ ghost use Rattle.c_section.specs.FlatCommand.{flat_component, no_components, fla
 
 use crate::commands::flat_command;
 use crate::{FlatTime, flat_time};
-use command::CommandRead;
 use command::components::{InsertComponent, MAX_COMPONENTS};
+use command::{CommandRefusal, SpliceCommand, number};
+use std::array;
 
 #[repr(C)]
 #[derive(Clone, Copy)]
@@ -33,6 +34,7 @@ fn flat_component(c: InsertComponent) -> FlatInsertComponent
     }
 }
 
+// The C interface has a blank array beside a refusal.
 fn no_components() -> [FlatInsertComponent; MAX_COMPONENTS]
     ensures { result ≡ no_components }
 {
@@ -42,28 +44,22 @@ fn no_components() -> [FlatInsertComponent; MAX_COMPONENTS]
     }; MAX_COMPONENTS]
 }
 
+// `from_fn` and not the array's `map`, which takes four times the instructions.
 fn flat_components(cs: [InsertComponent; MAX_COMPONENTS]) -> [FlatInsertComponent; MAX_COMPONENTS]
     ensures { result ≡ map flat_component cs }
 {
-    let mut out = no_components();
-    let mut i: usize = 0;
-    while i < MAX_COMPONENTS {
-        let c = cs[i];
-        out[i] = flat_component(c);
-        i += 1;
-    }
-    out
+    array::from_fn(|i| flat_component(cs[i]))
 }
 
 // Of the answer to an insert's payload, and its components.
 pub fn flat_insert_components(
-    read: CommandRead,
+    read: Result<SpliceCommand, CommandRefusal>,
     cs: [InsertComponent; MAX_COMPONENTS],
 ) -> FlatInsertComponents
     ensures { result ≡ flat_insert_components read cs }
 {
     match read {
-        CommandRead::Is(c) => {
+        Ok(c) => {
             let told = flat_command(c);
             let insert = told.insert;
             let mode = insert.mode;
@@ -73,13 +69,13 @@ pub fn flat_insert_components(
                 components: flat_components(cs),
             }
         }
-        CommandRead::UnknownType => FlatInsertComponents {
-            refusal: read.number() as u64,
+        Err(CommandRefusal::UnknownType) => FlatInsertComponents {
+            refusal: number(read) as u64,
             count: 0,
             components: no_components(),
         },
-        CommandRead::Malformed => FlatInsertComponents {
-            refusal: read.number() as u64,
+        Err(CommandRefusal::Malformed) => FlatInsertComponents {
+            refusal: number(read) as u64,
             count: 0,
             components: no_components(),
         },

@@ -4,9 +4,9 @@ ghost use Rattle.c_section.specs.Flat.{no_header, flat_header, flat_header_read,
 ghost use Rattle.header.specs.Header.{header_of};
 
 use crate::flat_flag;
-use header::header::{HeaderRead, SpliceInfoHeader};
-use header_numbers::{NumbersRead, read_header_numbers};
-use splice_time::AdjustedTime;
+use header::header::SpliceInfoHeader;
+use header_numbers::read_header_numbers;
+use splice_time::TooLarge;
 
 // Document 01's numbers of a header that is not there, and of a number that exceeds its field.
 const NO_HEADER: u64 = 5;
@@ -47,19 +47,20 @@ pub(crate) fn no_header(refusal: u64) -> FlatHeader
 pub fn read_flat_header(s: &[u8]) -> FlatHeader
     ensures { result ≡ flat_header_read (header_of s.now) }
 {
-    match read_header_numbers(s) {
-        NumbersRead::Numbers(n) => FlatHeader {
-            refusal: 0,
-            protocol_version: n.protocol_version as u64,
-            encrypted_packet: flat_flag(n.encrypted_packet),
-            encryption_algorithm: n.encryption_algorithm as u64,
-            pts_adjustment: n.pts_adjustment,
-            cw_index: n.cw_index as u64,
-            tier: n.tier as u64,
-            splice_command_length: n.splice_command_length as u64,
-            splice_command_type: n.splice_command_type as u64,
-        },
-        NumbersRead::NoHeader => no_header(NO_HEADER),
+    let n = match read_header_numbers(s) {
+        Some(n) => n,
+        None => return no_header(NO_HEADER),
+    };
+    FlatHeader {
+        refusal: 0,
+        protocol_version: n.protocol_version as u64,
+        encrypted_packet: flat_flag(n.encrypted_packet),
+        encryption_algorithm: n.encryption_algorithm as u64,
+        pts_adjustment: n.pts_adjustment,
+        cw_index: n.cw_index as u64,
+        tier: n.tier as u64,
+        splice_command_length: n.splice_command_length as u64,
+        splice_command_type: n.splice_command_type as u64,
     }
 }
 
@@ -72,21 +73,21 @@ fn flat_header(h: SpliceInfoHeader) -> FlatHeader
         refusal: 0,
         protocol_version: h.protocol_version as u64,
         encrypted_packet: flat_flag(h.encrypted_packet),
-        encryption_algorithm: algorithm.id() as u64,
+        encryption_algorithm: u8::from(algorithm) as u64,
         pts_adjustment: h.pts_adjustment,
         cw_index: h.cw_index as u64,
         tier: h.tier as u64,
         splice_command_length: h.splice_command_length as u64,
-        splice_command_type: command_type.id() as u64,
+        splice_command_type: u8::from(command_type) as u64,
     }
 }
 
-pub fn flat_header_read(read: HeaderRead) -> FlatHeader
+pub fn flat_header_read(read: Option<SpliceInfoHeader>) -> FlatHeader
     ensures { result ≡ flat_header_read read }
 {
     match read {
-        HeaderRead::Header(h) => flat_header(h),
-        HeaderRead::NoHeader => no_header(NO_HEADER),
+        Some(h) => flat_header(h),
+        None => no_header(NO_HEADER),
     }
 }
 
@@ -99,21 +100,21 @@ pub struct FlatAdjusted {
     pub ticks: u64,
 }
 
-pub fn flat_adjusted(t: AdjustedTime) -> FlatAdjusted
+pub fn flat_adjusted(t: Result<Option<u64>, TooLarge>) -> FlatAdjusted
     ensures { result ≡ flat_adjusted t }
 {
     match t {
-        AdjustedTime::At(ticks) => FlatAdjusted {
+        Ok(Some(ticks)) => FlatAdjusted {
             refusal: 0,
             kind: 3,
             ticks,
         },
-        AdjustedTime::Nothing => FlatAdjusted {
+        Ok(None) => FlatAdjusted {
             refusal: 0,
             kind: 0,
             ticks: 0,
         },
-        AdjustedTime::TooLarge => FlatAdjusted {
+        Err(TooLarge) => FlatAdjusted {
             refusal: TOO_LARGE,
             kind: 0,
             ticks: 0,

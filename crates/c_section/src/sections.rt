@@ -1,6 +1,5 @@
 // A section: header, command, and where its descriptor loop and its command's payload lie.
-ghost use Rattle.std.specs.Prelude.{◌≡◌};
-ghost use Rattle.section.specs.declared.SectionRead.{SectionRead};
+ghost use Rattle.std.specs.Prelude.{◌≡◌, Err};
 ghost use Rattle.c_section.specs.FlatSection.{flat_section_read, flat_parts};
 
 use crate::commands::{FlatCommand, flat_command, no_command};
@@ -21,7 +20,7 @@ pub struct FlatSection {
 
 // A refused section: its number alone.
 pub fn no_section(r: Refusal) -> FlatSection
-    ensures { result ≡ flat_section_read (SectionRead.Refused r) }
+    ensures { result ≡ flat_section_read (Err r) }
 {
     FlatSection {
         refusal: r.number() as u64,

@@ -17,7 +17,7 @@ use c_command_writer::commands::{
 use c_command_writer::{FlatWritten, are_same, are_within, flat_written, lower_refusal, word_at};
 use c_section::headers::{FlatHeader, flat_header_read};
 use command::SpliceCommand;
-use header::header::{HeaderRead, SpliceInfoHeader};
+use header::header::SpliceInfoHeader;
 use names::algorithm::EncryptionAlgorithm;
 use names::command::SpliceCommandType;
 use section_writer::{write_section, write_section_without_components};
@@ -29,7 +29,7 @@ fn header_from(words: &[u64]) -> SpliceInfoHeader
     SpliceInfoHeader {
         protocol_version: (word_at(words, 1) % 256) as u8,
         encrypted_packet: word_at(words, 2) == 1,
-        encryption_algorithm: EncryptionAlgorithm::from_id((word_at(words, 3) % 256) as u8),
+        encryption_algorithm: EncryptionAlgorithm::from((word_at(words, 3) % 256) as u8),
         pts_adjustment: word_at(words, 4),
         cw_index: (word_at(words, 5) % 256) as u8,
         tier: (word_at(words, 6) % 65536) as u16,
@@ -60,7 +60,7 @@ fn header_refusal(words: &[u64]) -> u64
     if !are_within(&widths, words) {
         return 32;
     }
-    let own = header_words(flat_header_read(HeaderRead::Header(header_from(words))));
+    let own = header_words(flat_header_read(Some(header_from(words))));
     if !are_same(&own, words) {
         return 33;
     }

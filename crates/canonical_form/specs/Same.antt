@@ -1,6 +1,6 @@
 -- Equal readings. 01: "Equal readings means equal values and equal bytes in the views; the header's command length and type, the views' places and array places
 -- past a count are left out."
-use Rattle.std.specs.Prelude.{ℕ, List, map, [], ◌∷◌, ◌≡◌, take}
+use Rattle.std.specs.Prelude.{ℕ, List, map, [], ◌∷◌, ◌≡◌, take, Ok, Some}
 use Rattle.table.specs.Lent.{placeless, viewed}
 use Rattle.table.specs.declared.View.{View}
 use Rattle.descriptor.specs.Views.{descriptor_views, with_views}
@@ -8,7 +8,6 @@ use Rattle.descriptor.specs.declared.Descriptor.{Descriptor}
 use Rattle.descriptor.specs.declared.segmentation.SegmentationUpid.{SegmentationUpid}
 use Rattle.descriptor.specs.declared.full.Beside.{Beside}
 use Rattle.descriptor_loop.specs.Items.{reading_of, Listed, items_of}
-use Rattle.descriptor_loop.specs.declared.Item.TheVariants.{Is}
 use Rattle.command.specs.Command.{with_view, count_in, components_of}
 use Rattle.command.specs.declared.SpliceCommand.{SpliceCommand}
 use Rattle.section.specs.Section.{command_bytes, private_view, loop_in}
@@ -49,13 +48,13 @@ pub record Given : Type 0 where
 -- the item x of the loop is a descriptor that is equal to what was handed in
 pub record ItemBack (loop : List ℕ) (x : Listed) (g : Given) : Type 0 where
   pub again : Descriptor
-  pub is : x.step.item ≡ Is again
+  pub is : x.step.item ≡ Some (Ok again)
   pub same : SameReading loop again x.step.identifier (reading_of loop x.offset).beside g.lent g.descriptor g.identifier g.beside
 
 -- the item x of one loop and the item y of another are descriptors with equal readings
 pub record SameItem (loop other : List ℕ) (x y : Listed) : Type 0 where
   pub that : Descriptor
-  pub is : y.step.item ≡ Is that
+  pub is : y.step.item ≡ Some (Ok that)
   pub back : ItemBack loop x (record { descriptor = that; identifier = y.step.identifier; beside = (reading_of other y.offset).beside; lent = other })
 
 -- R holds of two lists, one by one

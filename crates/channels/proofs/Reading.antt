@@ -1,5 +1,5 @@
 -- A shared board and the two lists that it reads as answer the same, and read as one another after every call.
-use Rattle.std.proofs.Common.{◌≡◌, ℕ, zero, suc, ◌+◌, ◌<◌, ◌≤◌, Bool, true, false, eqb, leb, [], ◌∷◌, ◌++◌, length, get_or, set, replicate, sym, refl, ◌∙◌, arith, length-append, length-set, get_or-set_other, get_or-set_same, eq-eqb, ne_eqb, leb-false, leb-true}
+use Rattle.std.proofs.Common.{Err, ◌≡◌, ℕ, zero, suc, ◌+◌, ◌<◌, ◌≤◌, Bool, true, false, eqb, leb, [], ◌∷◌, ◌++◌, length, get_or, set, replicate, sym, refl, ◌∙◌, arith, length-append, length-set, get_or-set_other, get_or-set_same, eq-eqb, ne_eqb, leb-false, leb-true}
 use lib.ListN.{get_or-replicate}
 use borrow.Author.Tests.{lt-leb, eqb-false}
 use Rattle.board.specs.Breaks.{Breaks, under, is_open, without, free_from, after, opened, closed}
@@ -10,12 +10,10 @@ use Rattle.board.proofs.Places.{has_free, first_free, has_held, first_held, free
 use Rattle.board.proofs.Lists.{length_without}
 use Rattle.board.proofs.Fresh.{after_fits, given_free}
 use Rattle.board.proofs.Reading.{Same, same_free, same_opened, same_closed}
-use Rattle.channels.specs.Channels.{empty_shared, seen_as, seen_by, breaks_by, no_channel, open_of, close_of}
+use Rattle.channels.specs.Channels.{Reply, Turn, reply_of, empty_shared, seen_as, seen_by, breaks_by, no_channel, open_of, close_of}
 use Rattle.channels.specs.Runs.{On, turn_by, turn_of, no_lists, with_list, said_of}
-use Rattle.channels.specs.declared.Reply.{Reply}
-use Rattle.channels.specs.declared.Reply.TheVariants.{NoSuchChannel, Is}
+use Rattle.channels.specs.declared.ChannelRefusal.TheVariants.{NoSuchChannel}
 use Rattle.channels.specs.declared.SharedBoard.{SharedBoard}
-use Rattle.channels.specs.declared.Turn.{Turn}
 use Rattle.channels.proofs.Views.{seen_length, seen_at, seen_set, seen_blank, seen_used, seen_free}
 use Rattle.channels.proofs.Lists.{each, kept, one_more, one_less, room_for_both}
 use Rattle.channels.proofs.Turns.{open_none, open_full, open_given, close_none}
@@ -125,7 +123,7 @@ module _ (b : SharedBoard) (ls : ℕ → Breaks) (r : Reads b ls) (c : ℕ) (h :
 
 -- ---- a call
 
-pub open_agrees : (b : SharedBoard) (ls : ℕ → Breaks) (c provider : ℕ) → Reads b ls → c < 2 → Agrees (open_of b c provider) (Is (opened 16 provider (ls c)).answer) (with_list c (opened 16 provider (ls c)).breaks ls)
+pub open_agrees : (b : SharedBoard) (ls : ℕ → Breaks) (c provider : ℕ) → Reads b ls → c < 2 → Agrees (open_of b c provider) (reply_of (opened 16 provider (ls c)).answer) (with_list c (opened 16 provider (ls c)).breaks ls)
 unfolding opened
 open_agrees b ls c provider r h = go (leb 16 (length (ls c).held)) refl
   where
@@ -135,7 +133,7 @@ open_agrees b ls c provider r h = go (leb 16 (length (ls c).held)) refl
     found : free_from 16 (breaks_by c b) (get_or b.next c 0) ≡ id
     found = rw (r.next c h) (same_free 16 (breaks_by c b) (ls c).held (ls c).next (r.same c h))
 
-    go : (f : Bool) → leb 16 (length (ls c).held) ≡ f → Agrees (open_of b c provider) (Is (opened 16 provider (ls c)).answer) (with_list c (opened 16 provider (ls c)).breaks ls)
+    go : (f : Bool) → leb 16 (length (ls c).held) ≡ f → Agrees (open_of b c provider) (reply_of (opened 16 provider (ls c)).answer) (with_list c (opened 16 provider (ls c)).breaks ls)
     go true e =
         let full : 16 ≤ length (breaks_by c b) = omega (arith, (r.same c h).many, leb-true 16 (length (ls c).held) e) in
         rw (open_full b c provider h full, e, kept c ls) (record { replies = refl; reads = r })
@@ -148,19 +146,19 @@ open_agrees b ls c provider r h = go (leb 16 (length (ls c).held)) refl
         rw (open_given b c provider h mine r.room at, e, found)
         (record { replies = refl; reads = opened_reads b ls r c h (before is_free b.places) id provider at (first_free b.places blank_place free) new few })
 
-pub close_agrees : (b : SharedBoard) (ls : ℕ → Breaks) (c id : ℕ) → Reads b ls → c < 2 → Agrees (close_of b c id) (Is (closed id (ls c)).answer) (with_list c (closed id (ls c)).breaks ls)
+pub close_agrees : (b : SharedBoard) (ls : ℕ → Breaks) (c id : ℕ) → Reads b ls → c < 2 → Agrees (close_of b c id) (reply_of (closed id (ls c)).answer) (with_list c (closed id (ls c)).breaks ls)
 unfolding closed close_of
 close_agrees b ls c id r h = go (is_open id (ls c).held) refl
   where
-    go : (o : Bool) → is_open id (ls c).held ≡ o → Agrees (close_of b c id) (Is (closed id (ls c)).answer) (with_list c (closed id (ls c)).breaks ls)
+    go : (o : Bool) → is_open id (ls c).held ≡ o → Agrees (close_of b c id) (reply_of (closed id (ls c)).answer) (with_list c (closed id (ls c)).breaks ls)
     go false e = rw (lt-leb 2 c h, (r.same c h).each id, e, kept c ls) (record { replies = refl; reads = r })
     go true e = rw (lt-leb 2 c h, (r.same c h).each id, e) (record { replies = refl; reads = closed_reads b ls r c h id e })
 
-call_agrees : (q : Call) (b : SharedBoard) (ls : ℕ → Breaks) (c : ℕ) → Reads b ls → c < 2 → Agrees (turn_by c q b) (Is (told_of 16 q (ls c)).answer) (with_list c (told_of 16 q (ls c)).breaks ls)
+call_agrees : (q : Call) (b : SharedBoard) (ls : ℕ → Breaks) (c : ℕ) → Reads b ls → c < 2 → Agrees (turn_by c q b) (reply_of (told_of 16 q (ls c)).answer) (with_list c (told_of 16 q (ls c)).breaks ls)
 call_agrees (opening provider) b ls c r h = open_agrees b ls c provider r h
 call_agrees (closing id) b ls c r h = close_agrees b ls c id r h
 
-call_refused : (q : Call) (b : SharedBoard) (c : ℕ) → 2 ≤ c → turn_by c q b ≡ record { reply = NoSuchChannel; board = b }
+call_refused : (q : Call) (b : SharedBoard) (c : ℕ) → 2 ≤ c → turn_by c q b ≡ record { reply = Err NoSuchChannel; board = b }
 call_refused (opening provider) b c h = open_none b c provider h
 call_refused (closing id) b c h = close_none b c id h
 

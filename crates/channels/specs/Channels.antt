@@ -1,20 +1,27 @@
 -- What each function of the shared board answers, for any board, also one that no calls make.
-use Rattle.std.specs.Prelude.{ℕ, Bool, cond as pick, ◌||◌, List, [], ◌∷◌, length, replicate, ◌==◌, nat_le, slice_index, slice_set}
-use Rattle.board.specs.Breaks.{Break, is_open, provider_of, free_from, after, number_of}
+use Rattle.std.specs.Prelude.{ℕ, Bool, cond as pick, ◌||◌, List, [], ◌∷◌, length, replicate, ◌==◌, nat_le, slice_index, slice_set, Result, Ok, Err}
+use Rattle.board.specs.Breaks.{Answer, Break, is_open, provider_of, free_from, after, number_of}
 use Rattle.board.specs.Board.{blank_place, taken_by, is_free, holds, before, breaks_of}
-use Rattle.board.specs.declared.Answer.TheVariants as answer
 use Rattle.board.specs.declared.Refusal.TheVariants.{BoardFull, NotOpen}
 use Rattle.board.specs.declared.Place.{Place}
-use Rattle.channels.specs.declared.Reply.{Reply}
-use Rattle.channels.specs.declared.Reply.TheVariants.{NoSuchChannel, Is}
+use Rattle.channels.specs.declared.ChannelRefusal.{ChannelRefusal}
+use Rattle.channels.specs.declared.ChannelRefusal.TheVariants.{NoSuchChannel, Board}
 use Rattle.channels.specs.declared.SharedBoard.{SharedBoard}
-use Rattle.channels.specs.declared.Turn.{Turn}
+
+-- the event id or the provider id; or the refusal
+abbrev pub Reply : Type 0
+Reply = Result ℕ ChannelRefusal
+
+-- what Q-7's board answers, as a reply
+abbrev pub reply_of : Answer → Reply
+reply_of (Ok id) = Ok id
+reply_of (Err r) = Err (Board r)
 
 -- the number of each refusal, 0 where there is none
 unfoldable pub refusal_of : Reply → ℕ
-refusal_of NoSuchChannel = 63
-refusal_of (Is (answer.Is id)) = 0
-refusal_of (Is (answer.Refused r)) = number_of r
+refusal_of (Ok id) = 0
+refusal_of (Err NoSuchChannel) = 63
+refusal_of (Err (Board r)) = number_of r
 
 -- "Each of the two channels has its own next id"
 abbrev pub empty_shared : SharedBoard
@@ -33,8 +40,13 @@ seen_by channel (p ∷ ps) (w ∷ ws) = seen_as channel p w ∷ seen_by channel 
 abbrev pub breaks_by : ℕ → SharedBoard → List Break
 breaks_by channel b = breaks_of (seen_by channel b.places b.whose)
 
-abbrev pub as_found : Reply → SharedBoard → Turn
-as_found reply b = record { reply = reply; board = b }
+-- what a call is told, and the board after it
+pub record Turn : Type 0 where
+  pub reply : Reply
+  pub board : SharedBoard
+
+abbrev pub as_found : ChannelRefusal → SharedBoard → Turn
+as_found refusal b = record { reply = Err refusal; board = b }
 
 -- "63 channel other than 0 or 1, tested first"
 abbrev pub no_channel : ℕ → Bool
@@ -46,9 +58,9 @@ open_of b channel provider =
     let id : ℕ = free_from 16 (breaks_by channel b) (slice_index b.next channel) in
     let at : ℕ = before is_free b.places in
     pick (no_channel channel) (as_found NoSuchChannel b)
-    (pick (nat_le 16 (length (breaks_by channel b)) || nat_le 32 (length (breaks_of b.places))) (as_found (Is (answer.Refused BoardFull)) b)
+    (pick (nat_le 16 (length (breaks_by channel b)) || nat_le 32 (length (breaks_of b.places))) (as_found (Board BoardFull) b)
     (record {
-      reply = Is (answer.Is id);
+      reply = Ok id;
       board = record { places = slice_set b.places at (taken_by id provider); whose = slice_set b.whose at channel; next = slice_set b.next channel (after id) };
     }))
 
@@ -58,7 +70,7 @@ close_of b channel id =
     pick (no_channel channel) (as_found NoSuchChannel b)
     (pick (is_open id (breaks_by channel b))
     (record {
-      reply = Is (answer.Is (provider_of id (breaks_by channel b)));
+      reply = Ok (provider_of id (breaks_by channel b));
       board = record { places = slice_set b.places (before (holds id) (seen_by channel b.places b.whose)) blank_place; whose = b.whose; next = b.next };
     })
-    (as_found (Is (answer.Refused NotOpen)) b))
+    (as_found (Board NotOpen) b))

@@ -1,13 +1,11 @@
 -- Calls on any channel one after the other, as the contracts of the functions allow them, and on a list for each channel.
-use Rattle.std.specs.Prelude.{ℕ, cond as pick, List, [], ◌∷◌, map, ◌==◌}
+use Rattle.std.specs.Prelude.{Err, ℕ, cond as pick, List, [], ◌∷◌, map, ◌==◌}
 use Rattle.board.specs.Breaks.{Breaks, Told, no_breaks}
 use Rattle.board.specs.Runs.{Call, told_of, list_answers}
 use Rattle.board.specs.Runs.Call.{opening, closing}
-use Rattle.channels.specs.Channels.{no_channel, open_of, close_of}
-use Rattle.channels.specs.declared.Reply.{Reply}
-use Rattle.channels.specs.declared.Reply.TheVariants.{NoSuchChannel, Is}
+use Rattle.channels.specs.Channels.{Reply, Turn, reply_of, no_channel, open_of, close_of}
+use Rattle.channels.specs.declared.ChannelRefusal.TheVariants.{NoSuchChannel}
 use Rattle.channels.specs.declared.SharedBoard.{SharedBoard}
-use Rattle.channels.specs.declared.Turn.{Turn}
 
 -- one of Q-7's calls, on a channel of any number
 pub record On : Type 0 where
@@ -43,7 +41,7 @@ pub record Said : Type 0 where
 abbrev pub said_of : On → (ℕ → Breaks) → Said
 said_of o ls =
     let t : Told = told_of 16 o.call (ls o.channel) in
-    pick (no_channel o.channel) (record { reply = NoSuchChannel; lists = ls }) (record { reply = Is t.answer; lists = with_list o.channel t.breaks ls })
+    pick (no_channel o.channel) (record { reply = Err NoSuchChannel; lists = ls }) (record { reply = reply_of t.answer; lists = with_list o.channel t.breaks ls })
 
 unfoldable pub list_replies : List On → (ℕ → Breaks) → List Reply
 list_replies [] ls = []
@@ -63,4 +61,4 @@ heard_by c (o ∷ os) (r ∷ told) = pick (o.channel == c) (r ∷ heard_by c os 
 
 -- What Q-7's list with room for 16 says to a channel's own calls; to one of another number, 63 each time. No other channel is named, no place, and no total.
 abbrev pub alone : ℕ → List Call → Breaks → List Reply
-alone c calls l = pick (no_channel c) (map (λ (q : Call). NoSuchChannel) calls) (map Is (list_answers 16 calls l))
+alone c calls l = pick (no_channel c) (map (λ (q : Call). Err NoSuchChannel) calls) (map reply_of (list_answers 16 calls l))

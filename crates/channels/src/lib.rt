@@ -1,13 +1,16 @@
 // Two channels on one board (Q-8). The 32 places are shared: none belongs to a channel, and each says whose break stands in it.
 #![tactic(auto)]
 
-ghost use Rattle.std.specs.Prelude.{◌≡◌, length};
-ghost use Rattle.board.specs.Board.{breaks_of};
-ghost use Rattle.channels.specs.Channels.{empty_shared, seen_as, seen_by, as_found, open_of, close_of};
+ghost use Rattle.std.specs.Prelude.{◌≡◌, ◌<◌, length, slice_index, slice_index_or};
+ghost use Rattle.board.specs.Board.{blank_place, breaks_of};
+ghost use Rattle.channels.specs.Channels.{empty_shared, seen_as, seen_by, open_of, close_of};
+ghost use Rattle.channels.specs.declared.ChannelRefusal.TheVariants.{Board};
 
-use board::{Answer, Place, Refusal, blank_place, free_id, free_place, place_of};
+use board::{Place, Refusal, blank_place, free_id, free_place, place_of};
+use std::array;
 
 // `whose[i]` is the channel of the break in `places[i]`; of a free place it says nothing. `next` has an id for each channel.
+// Two arrays and not one of pairs: the searches of crate board (`free_place`) take the places alone.
 #[derive(Clone, Copy)]
 pub struct SharedBoard {
     pub places: [Place; 32],
@@ -15,137 +18,95 @@ pub struct SharedBoard {
     pub next: [u32; 2],
 }
 
-// Refusal 63, or what Q-7's board would answer: refusals 61 and 62 among it.
-#[derive(Clone, Copy)]
-pub enum Reply {
+// Refusal 63, or one of Q-7's board: 61 and 62.
+#[derive(Clone, Copy, Debug, PartialEq, Eq)]
+pub enum ChannelRefusal {
     NoSuchChannel,
-    Is(Answer),
+    Board(Refusal),
 }
 
-#[derive(Clone, Copy)]
-pub struct Turn {
-    pub reply: Reply,
-    pub board: SharedBoard,
-}
+impl From<Refusal> for ChannelRefusal {
+    ghost from_gives = { λ refusal told. told ≡ Board refusal };
 
-pub fn empty() -> SharedBoard
-    ensures { result ≡ empty_shared }
-{
-    let none = blank_place();
-    SharedBoard {
-        places: [none; 32],
-        whose: [0; 32],
-        next: [1; 2],
+    fn from(refusal: Refusal) -> ChannelRefusal {
+        ChannelRefusal::Board(refusal)
     }
-}
-
-fn seen_as(p: Place, whose: u8, channel: u8) -> Place
-    ensures { result ≡ seen_as channel p whose }
-{
-    if whose == channel { p } else { blank_place() }
-}
-
-// The places as a channel sees them: another's breaks are blank.
-fn seen(places: [Place; 32], whose: [u8; 32], channel: u8) -> [Place; 32]
-    ensures { (result ≡ seen_by channel places whose) × (length places ≡ 32) × (length whose ≡ 32) }
-{
-    let none = blank_place();
-    let mut out = [none; 32];
-    let mut i: usize = 0;
-    while i < 32 {
-        out[i] = seen_as(places[i], whose[i], channel);
-        i += 1;
-    }
-    out
 }
 
 // How many breaks stand in these places.
-fn count(places: [Place; 32]) -> usize
-    ensures { result ≡ length (breaks_of places) }
+fn count(places: &[Place]) -> usize
+    ensures { result ≡ length (breaks_of places.now) }
 {
-    let mut n: usize = 0;
-    let mut i: usize = 0;
-    while i < 32 {
-        let p = places[i];
-        if p.used {
-            n += 1;
+    places.iter().filter(|p| p.used).count()
+}
+
+impl SharedBoard {
+    pub fn empty() -> SharedBoard
+        ensures { result ≡ empty_shared }
+    {
+        SharedBoard {
+            places: [blank_place(); 32],
+            whose: [0; 32],
+            next: [1; 2],
         }
-        i += 1;
     }
-    n
-}
 
-fn refused(b: SharedBoard, reply: Reply) -> Turn
-    ensures { result ≡ as_found reply b }
-{
-    Turn { reply, board: b }
-}
+    // A place as a channel sees it: another's break is blank.
+    fn seen_at(&self, i: usize, channel: u8) -> Place
+        requires { i < 32 }
+        ensures { result ≡ seen_as channel (slice_index_or self.now.places i blank_place) (slice_index self.now.whose i) }
+    {
+        if self.whose[i] == channel {
+            self.places[i]
+        } else {
+            blank_place()
+        }
+    }
 
-// Opens a break on a channel: 63 for no channel, 61 where the channel holds 16. On a board that no calls make all places may be taken before
-// that: 61 too.
-pub fn open_break(b: SharedBoard, channel: u8, provider: u32) -> Turn
-    ensures { result ≡ open_of b channel provider }
-{
-    if 1 < channel {
-        return refused(b, Reply::NoSuchChannel);
+    // The places as a channel sees them.
+    fn seen(&self, channel: u8) -> [Place; 32]
+        ensures { result ≡ seen_by channel self.now.places self.now.whose }
+    {
+        array::from_fn(|i| self.seen_at(i, channel))
     }
-    let places = b.places;
-    let whose = b.whose;
-    let mine = seen(places, whose, channel);
-    if 16 <= count(mine) {
-        return refused(b, Reply::Is(Answer::Refused(Refusal::BoardFull)));
-    }
-    let at = free_place(places);
-    if 32 <= at {
-        return refused(b, Reply::Is(Answer::Refused(Refusal::BoardFull)));
-    }
-    let nexts = b.next;
-    let c = channel as usize;
-    let event = free_id(mine, nexts[c], 16);
-    let mut after = places;
-    after[at] = Place {
-        used: true,
-        event,
-        provider,
-    };
-    let mut whose_after = whose;
-    whose_after[at] = channel;
-    let mut next_after = nexts;
-    next_after[c] = std::num::wrapping_add_u32(event, 1);
-    Turn {
-        reply: Reply::Is(Answer::Is(event)),
-        board: SharedBoard {
-            places: after,
-            whose: whose_after,
-            next: next_after,
-        },
-    }
-}
 
-// Closes a break of a channel: 63 for no channel, 62 where none of the channel's breaks has this event id.
-pub fn close_break(b: SharedBoard, channel: u8, event: u32) -> Turn
-    ensures { result ≡ close_of b channel event }
-{
-    if 1 < channel {
-        return refused(b, Reply::NoSuchChannel);
+    // Opens a break on a channel: 63 for no channel, 61 where the channel holds 16. On a board that no calls make all places may be taken before
+    // that: 61 too.
+    pub fn open_break(&mut self, channel: u8, provider: u32) -> Result<u32, ChannelRefusal>
+        ensures reply { result ≡ (open_of self.old channel provider).reply }
+        ensures board { self.new ≡ (open_of self.old channel provider).board }
+    {
+        if 1 < channel {
+            return Err(ChannelRefusal::NoSuchChannel);
+        }
+        let mine = self.seen(channel);
+        if 16 <= count(&mine) {
+            return Err(ChannelRefusal::Board(Refusal::BoardFull));
+        }
+        let at = free_place(&self.places).ok_or(Refusal::BoardFull)?;
+        let c = usize::from(channel);
+        let event = free_id(&mine, self.next[c], 16);
+        self.places[at] = Place {
+            used: true,
+            event,
+            provider,
+        };
+        self.whose[at] = channel;
+        self.next[c] = event.wrapping_add(1);
+        Ok(event)
     }
-    let places = b.places;
-    let whose = b.whose;
-    let mine = seen(places, whose, channel);
-    let at = place_of(mine, event);
-    if 32 <= at {
-        return refused(b, Reply::Is(Answer::Refused(Refusal::NotOpen)));
-    }
-    let p = mine[at];
-    let mut after = places;
-    after[at] = blank_place();
-    let next = b.next;
-    Turn {
-        reply: Reply::Is(Answer::Is(p.provider)),
-        board: SharedBoard {
-            places: after,
-            whose,
-            next,
-        },
+
+    // Closes a break of a channel: 63 for no channel, 62 where none of the channel's breaks has this event id.
+    pub fn close_break(&mut self, channel: u8, event: u32) -> Result<u32, ChannelRefusal>
+        ensures reply { result ≡ (close_of self.old channel event).reply }
+        ensures board { self.new ≡ (close_of self.old channel event).board }
+    {
+        if 1 < channel {
+            return Err(ChannelRefusal::NoSuchChannel);
+        }
+        let mine = self.seen(channel);
+        let at = place_of(&mine, event).ok_or(Refusal::NotOpen)?;
+        self.places[at] = blank_place();
+        Ok(mine[at].provider)
     }
 }

@@ -11,6 +11,7 @@ use lib.ListN.{length, drop, set, replicate, length-replicate}
 use lib.Seq.{sets, sets-eq}
 use Rattle.table.specs.Bits.{pick, bits_of, field}
 use Rattle.table.specs.Table.{Table, done, inside, list, Answer, got, short, parse}
+use Rattle.table.specs.declared.cursor.Field.{Field}
 use Rattle.table.specs.declared.cursor.Short.{Short}
 use Rattle.table.proofs.Reading.{bits_are}
 use Rattle.table.proofs.Steps.{onward, list_turn, list_short, list_none, reads_in, reads_number, reads_flag, reads_ones}
@@ -18,10 +19,7 @@ use Rattle.command.specs.Command.{read, command_of, insert_count, array, compone
 use Rattle.splice_time.specs.Break.{break_duration}
 use Rattle.command.specs.Insert.{WithComponents, count, time_unless, component, blank, moded, mode_of, ending, active, active_of, insert}
 use Rattle.command.specs.Private.{component_read, list_in, filled, count_read}
-use Rattle.command.specs.declared.CommandRead.{CommandRead}
 use Rattle.command.specs.declared.SpliceCommand.{SpliceCommand}
-use Rattle.command.specs.declared.components.Component.{Component}
-use Rattle.command.specs.declared.components.ComponentRead.{ComponentRead}
 use Rattle.command.specs.declared.components.InsertComponent.{InsertComponent}
 use Rattle.command.specs.declared.insert.InsertDetail.{InsertDetail}
 use Rattle.command.specs.declared.insert.SpliceInsert.{SpliceInsert}
@@ -29,6 +27,8 @@ use Rattle.command.specs.declared.insert.SpliceDetail.{SpliceDetail}
 use Rattle.command.specs.declared.insert.SpliceMode.{SpliceMode}
 use Rattle.command.proofs.Answers.{lacks_component}
 use Rattle.command.proofs.Walking.{component_there}
+use Rattle.std.proofs.Common.{Ok, Err, Result}
+use Rattle.command.specs.declared.CommandRefusal.{CommandRefusal}
 
 -- ---- as many as the list says
 list_length : {Y : Type 0} (n : ℕ) (d : Y) (t : Table Y) (bs : List ℕ) (at : ℕ) (ys : List Y) (m : ℕ) → parse (list n d t) bs at ≡ got ys m → length ys ≡ n
@@ -65,13 +65,13 @@ module _ (s : List ℕ) (b : Bool) where
   pub fill_start : (n at : ℕ) → n ≤ 255 → filled (array []) 0 (parse (list n blank (component b)) (bits_of s) at) ≡ array (list_in (parse (list n blank (component b)) (bits_of s) at))
   fill_start n at h = start _ (λ cs m e. omega (arith, list_length n blank (component b) (bits_of s) at cs m e))
 
-  pub fill_turn : (out : List InsertComponent) (i n at : ℕ) (y : Component) → ComponentRead.Got y ≡ component_read (parse (component b) (bits_of s) (at * 8))
-      → filled (set out i y.component) (i + 1) (parse (list n blank (component b)) (bits_of s) (y.next * 8)) ≡ filled out i (parse (list (suc n) blank (component b)) (bits_of s) (at * 8))
+  pub fill_turn : (out : List InsertComponent) (i n at : ℕ) (y : Field InsertComponent ℕ) → Ok y ≡ component_read (parse (component b) (bits_of s) (at * 8))
+      → filled (set out i y.value) (i + 1) (parse (list n blank (component b)) (bits_of s) (y.next * 8)) ≡ filled out i (parse (list (suc n) blank (component b)) (bits_of s) (at * 8))
   fill_turn out i n at y e =
-      sym (ap (filled out i) (list_turn n blank (component b) (bits_of s) (at * 8) y.component (y.next * 8) (component_there s b at y e))
-      ∙ on (bits_of s) out i y.component (parse (list n blank (component b)) (bits_of s) (y.next * 8)))
+      sym (ap (filled out i) (list_turn n blank (component b) (bits_of s) (at * 8) y.value (y.next * 8) (component_there s b at y e))
+      ∙ on (bits_of s) out i y.value (parse (list n blank (component b)) (bits_of s) (y.next * 8)))
 
-  pub fill_lacks : (out : List InsertComponent) (i n at : ℕ) (x : Short) → ComponentRead.Lacks x ≡ component_read (parse (component b) (bits_of s) at)
+  pub fill_lacks : (out : List InsertComponent) (i n at : ℕ) (x : Short) → Err x ≡ component_read (parse (component b) (bits_of s) at)
       → array [] ≡ filled out i (parse (list (suc n) blank (component b)) (bits_of s) at)
   unfolding filled
   fill_lacks out i n at x e = rw (list_short n blank (component b) (bits_of s) at _ _ (lacks_component (parse (component b) (bits_of s) at) x e))
@@ -173,7 +173,7 @@ detail_counts s b SpliceDetail.Cancel = none_listed s b
 detail_counts s b (SpliceDetail.Insert i) = mode_counts s b i.splice_mode
 
 -- the count of an insert that was read
-pub counted : (r : CommandRead) (c : SpliceCommand) (i : SpliceInsert) (x : InsertDetail) (m : SpliceMode) → r ≡ CommandRead.Is c → c ≡ SpliceCommand.SpliceInsert i
+pub counted : (r : Result SpliceCommand CommandRefusal) (c : SpliceCommand) (i : SpliceInsert) (x : InsertDetail) (m : SpliceMode) → r ≡ Ok c → c ≡ SpliceCommand.SpliceInsert i
     → i.splice_detail ≡ SpliceDetail.Insert x → x.splice_mode ≡ m → count m ≡ count_read r
 counted r c i x m e₁ e₂ e₃ e₄ = rw (e₁, e₂, e₃, e₄)
 
@@ -188,7 +188,7 @@ module _ (s : List ℕ) where
       go (got x m) p = ap array (detail_counts s b x.value.splice_detail ∙ rw z (sym (insert_keeps s x m p)))
       go (short e a) p = ap array (none_listed s b)
 
-  pub all_components : (c : CommandRead) (n v : ℕ) (r : List InsertComponent) → c ≡ command_of 5 s → n ≡ count_read c → v ≡ field (bits_of s) 43 1 % 2 ^ 64
+  pub all_components : (c : Result SpliceCommand CommandRefusal) (n v : ℕ) (r : List InsertComponent) → c ≡ command_of 5 s → n ≡ count_read c → v ≡ field (bits_of s) 43 1 % 2 ^ 64
       → r ≡ array (list_in (parse (list n blank (component (eqb v 1))) (bits_of s) 56)) → r ≡ components_of s
   all_components c n v r e f g h =
       h ∙ ap (λ (k : ℕ). array (listed s (eqb v 1) k)) (f ∙ ap count_read e)

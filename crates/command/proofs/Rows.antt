@@ -11,10 +11,10 @@ use Rattle.table.specs.Table.{number, bit, reserved, part, remaining, list, got,
 use Rattle.command.specs.Command.{private, array}
 use Rattle.splice_time.specs.Break.{break_duration}
 use Rattle.command.specs.Insert.{WithComponents, time_unless, component, moded, ending, active, insert}
-use Rattle.splice_time.specs.declared.break_duration.Break.{Break}
 use Rattle.command.specs.declared.insert.SpliceInsert.{SpliceInsert}
 use Rattle.command.specs.declared.insert.SpliceDetail.{SpliceDetail}
 use Rattle.command.specs.declared.insert.SpliceMode.{SpliceMode}
+use Rattle.std.proofs.Common.{None}
 
 -- ---- m: by components with count 0, not immediate and immediate
 abbrev timed : List ℕ
@@ -31,7 +31,7 @@ empty = record {
     splice_detail = SpliceDetail.Insert (record {
       network_indicator = NetworkIndicator.In;
       splice_mode = SpliceMode.Components 0;
-      duration = Break.Absent;
+      duration = None;
       unique_program_id = 0;
       avail_num = 0;
       avails_expected = 0;

@@ -1,5 +1,5 @@
 -- The payloads of the commands by their type. 01, "Commands".
-use Rattle.std.specs.Prelude.{ℕ, List, [], map, eqb, length}
+use Rattle.std.specs.Prelude.{ℕ, List, [], map, eqb, length, Ok, Err, Result}
 use Rattle.splice_time.specs.Time.{splice_time}
 use Rattle.splice_time.specs.declared.SpliceTime.{SpliceTime}
 use Rattle.table.specs.Bits.{pick, bits_of, AllBytes}
@@ -7,13 +7,13 @@ use Rattle.table.specs.Lent.{filled_to}
 use Rattle.table.specs.Table.{Table, done, inside, uimsbf, remaining, part, Answer, got, short, parse}
 use Rattle.table.specs.declared.View.{View}
 use Rattle.command.specs.Insert.{WithComponents, insert, insert_of, count, blank}
-use Rattle.command.specs.declared.CommandRead.{CommandRead}
 use Rattle.command.specs.declared.Private.{Private}
 use Rattle.command.specs.declared.SpliceCommand.{SpliceCommand}
 use Rattle.command.specs.declared.components.InsertComponent.{InsertComponent}
 use Rattle.command.specs.declared.components.ListedCommand.{ListedCommand}
 use Rattle.command.specs.declared.insert.SpliceInsert.{SpliceInsert}
 use Rattle.command.specs.declared.insert.SpliceDetail.{SpliceDetail}
+use Rattle.command.specs.declared.CommandRefusal.{CommandRefusal}
 
 -- "Private: identifier 32, the rest as a view."
 unfoldable pub private : Table Private
@@ -24,13 +24,13 @@ private =
     done (record { identifier = identifier; private_bytes = bytes })
 
 -- the command that is made of what a table reads, or 11. Where the reading ended is not looked at: "Bytes after insert or time signal are tolerated"
-abbrev pub read : {X : Type 0} → (X → SpliceCommand) → Answer X → CommandRead
-read f (got x at) = CommandRead.Is (f x)
-read f (short expected actual) = CommandRead.Malformed
+abbrev pub read : {X : Type 0} → (X → SpliceCommand) → Answer X → Result SpliceCommand CommandRefusal
+read f (got x at) = Ok (f x)
+read f (short expected actual) = Err CommandRefusal.Malformed
 
 -- "Null and bandwidth reservation: payload empty."
-abbrev pub empty : SpliceCommand → List ℕ → CommandRead
-empty command payload = pick (eqb (length payload) 0) (CommandRead.Is command) CommandRead.Malformed
+abbrev pub empty : SpliceCommand → List ℕ → Result SpliceCommand CommandRefusal
+empty command payload = pick (eqb (length payload) 0) (Ok command) (Err CommandRefusal.Malformed)
 
 -- by a command's type: "none of 0x00, 0x05, 0x06, 0x07, 0xFF" is another
 abbrev pub by_type {ℓ} : {A : Type ℓ} → ℕ → A → A → A → A → A → A → A
@@ -55,7 +55,7 @@ abbrev pub type_of : SpliceCommand → ℕ
 type_of c = by_command 0x00 (λ i. 0x05) (λ t. 0x06) 0x07 (λ p. 0xff) c
 
 -- refusal 10: "command type is none of ..", the last; refusal 11: "command payload malformed"
-unfoldable pub command_of : ℕ → List ℕ → CommandRead
+unfoldable pub command_of : ℕ → List ℕ → Result SpliceCommand CommandRefusal
 command_of command_type payload =
     by_type command_type
     (empty SpliceCommand.SpliceNull payload)
@@ -63,13 +63,13 @@ command_of command_type payload =
     (read SpliceCommand.TimeSignal (parse splice_time (bits_of payload) 0))
     (empty SpliceCommand.BandwidthReservation payload)
     (read SpliceCommand.PrivateCommand (parse private (bits_of payload) 0))
-    CommandRead.UnknownType
+    (Err CommandRefusal.UnknownType)
 
 -- 01's number of each refusal; none has values
-abbrev pub number_of : CommandRead → ℕ
-number_of (CommandRead.Is c) = 0
-number_of CommandRead.UnknownType = 10
-number_of CommandRead.Malformed = 11
+abbrev pub number_of : Result SpliceCommand CommandRefusal → ℕ
+number_of (Ok c) = 0
+number_of (Err CommandRefusal.UnknownType) = 10
+number_of (Err CommandRefusal.Malformed) = 11
 
 -- ---- f of one kind of command, and `none` of any other
 abbrev pub of_insert : {A : Type 0} → (SpliceInsert → A) → A → SpliceCommand → A

@@ -1,10 +1,9 @@
 -- splice_insert(). 01, "Commands".
-use Rattle.std.specs.Prelude.{ℕ, Bool, true, false, ◌&&◌, List, [], ltb, eqb, get_or}
+use Rattle.std.specs.Prelude.{ℕ, Bool, true, false, ◌&&◌, List, [], ltb, eqb, get_or, None}
 use Rattle.splice_time.specs.Break.{lasting, break_duration}
 use Rattle.splice_time.specs.Time.{splice_time}
 pub use Rattle.splice_time.specs.Time.{immediate}
 use Rattle.splice_time.specs.declared.SpliceTime.{SpliceTime}
-use Rattle.splice_time.specs.declared.break_duration.Break.{Break}
 use Rattle.splice_time.specs.declared.SpliceTime.TheVariants.{Immediate, Unspecified}
 use Rattle.names.specs.Flags.{network_flag}
 use Rattle.names.specs.declared.flags.NetworkIndicator.{NetworkIndicator}
@@ -111,7 +110,7 @@ abbrev pub insert_of : SpliceDetail → InsertDetail
 insert_of SpliceDetail.Cancel = record {
   network_indicator = NetworkIndicator.In;
   splice_mode = SpliceMode.Components 0;
-  duration = Break.Absent;
+  duration = None;
   unique_program_id = 0;
   avail_num = 0;
   avails_expected = 0;

@@ -7,9 +7,9 @@ ghost use Rattle.table.specs.Bits.{bits_of};
 ghost use Rattle.table.specs.Table.{list, parse};
 
 use crate::insert::{SpliceDetail, SpliceMode, read_time_unless};
-use crate::{CommandRead, SpliceCommand, read_command, read_other};
-use splice_time::{SpliceTime, TimeRead};
-use table::cursor::Short;
+use crate::{CommandRefusal, SpliceCommand, read_command, read_other};
+use splice_time::SpliceTime;
+use table::cursor::{Field, Short};
 use table::numbers::bits;
 
 // An insert has at most so many components.
@@ -24,72 +24,45 @@ pub struct InsertComponent {
 // A command as it was read, or its refusal, and its components: blank past their count.
 #[derive(Clone, Copy)]
 pub struct ListedCommand {
-    pub read: CommandRead,
+    pub read: Result<SpliceCommand, CommandRefusal>,
     pub components: [InsertComponent; MAX_COMPONENTS],
 }
 
 // A component and the place of the byte after it.
-#[derive(Clone, Copy)]
-pub struct Component {
-    pub component: InsertComponent,
-    pub next: usize,
-}
-
-#[derive(Clone, Copy)]
-pub enum ComponentRead {
-    Got(Component),
-    Lacks(Short),
-}
-
-// The place of the byte after components that are all there.
-#[derive(Clone, Copy)]
-pub enum Skimmed {
-    Got(usize),
-    Lacks(Short),
-}
-
-pub(crate) fn read_component(s: &[u8], at: usize, immediate: bool) -> ComponentRead
+pub(crate) fn read_component(
+    s: &[u8],
+    at: usize,
+    immediate: bool,
+) -> Result<Field<InsertComponent, usize>, Short>
     ensures { result ≡ component_read (parse (component immediate) (bits_of s.now) (at * 8)) }
 {
     if s.len() <= at {
-        return ComponentRead::Lacks(Short {
+        return Err(Short {
             expected: 1,
             actual: 0,
         });
     }
     let component_tag = s[at];
-    match read_time_unless(s, at + 1, immediate) {
-        TimeRead::Got(t) => {
-            let splice_time = t.time;
-            let next = t.next;
-            ComponentRead::Got(Component {
-                component: InsertComponent {
-                    component_tag,
-                    splice_time,
-                },
-                next: next.byte,
-            })
-        }
-        TimeRead::Lacks(e) => ComponentRead::Lacks(e),
-    }
+    let timed = read_time_unless(s, at + 1, immediate)?;
+    Ok(Field {
+        value: InsertComponent {
+            component_tag,
+            splice_time: timed.value,
+        },
+        next: timed.next.byte,
+    })
 }
 
 // Past `count` components, each of which is there.
-pub(crate) fn skim(s: &[u8], first: usize, count: usize, immediate: bool) -> Skimmed
+pub(crate) fn skim(s: &[u8], first: usize, count: usize, immediate: bool) -> Result<usize, Short>
     ensures { result ≡ skimmed_of (parse (list count blank (component immediate)) (bits_of s.now) (first * 8)) }
 {
     let mut at = first;
-    let mut ahead = count;
-    while 0 < ahead {
-        match read_component(s, at, immediate) {
-            ComponentRead::Got(y) => {
-                at = y.next;
-            }
-            ComponentRead::Lacks(e) => return Skimmed::Lacks(e),
-        }
-        ahead -= 1;
+    for _ in 0..count {
+        let component = read_component(s, at, immediate)?;
+        at = component.next;
     }
-    Skimmed::Got(at)
+    Ok(at)
 }
 
 // No components: every place blank.
@@ -109,29 +82,25 @@ fn fill(s: &[u8], first: usize, count: usize, immediate: bool) -> [InsertCompone
 {
     let mut out = blanks();
     let mut at = first;
-    let mut i: usize = 0;
-    while i < count {
-        match read_component(s, at, immediate) {
-            ComponentRead::Got(y) => {
-                let component = y.component;
-                out[i] = component;
-                at = y.next;
-            }
-            ComponentRead::Lacks(_) => return blanks(),
-        }
-        i += 1;
+    for i in 0..count {
+        let read = match read_component(s, at, immediate) {
+            Ok(read) => read,
+            Err(_) => return blanks(),
+        };
+        out[i] = read.value;
+        at = read.next;
     }
     out
 }
 
 // How many components a command says that it has.
-fn count_of(read: CommandRead) -> u8
+fn count_of(read: Result<SpliceCommand, CommandRefusal>) -> u8
     ensures { result ≡ count_read read }
 {
     let command = match read {
-        CommandRead::Is(c) => c,
-        CommandRead::UnknownType => return 0,
-        CommandRead::Malformed => return 0,
+        Ok(c) => c,
+        Err(CommandRefusal::UnknownType) => return 0,
+        Err(CommandRefusal::Malformed) => return 0,
     };
     let insertion = match command {
         SpliceCommand::SpliceNull => return 0,

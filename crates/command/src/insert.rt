@@ -8,14 +8,14 @@ ghost use Rattle.names.specs.declared.flags.NetworkIndicator.{NetworkIndicator};
 ghost use Rattle.table.specs.Bits.{pick, bits_of};
 ghost use Rattle.table.specs.Table.{parse};
 
-use crate::components::{Skimmed, skim};
+use crate::components::skim;
 use names::flags::NetworkIndicator;
-use splice_time::break_duration::{Break, BreakRead, read_break};
-use splice_time::{SpliceTime, TimeRead, Timed, read_aligned_time};
-use table::cursor::{Cursor, Short};
+use splice_time::break_duration::{SpliceDuration, read_break};
+use splice_time::{SpliceTime, read_aligned_time};
+use table::cursor::{Cursor, Field, Short};
 use table::numbers::{big_endian, wide};
 
-// By program, or by as many components; they are read on demand.
+// By program, or by as many components; they are read on demand. (No Option: either says what is spliced.)
 #[derive(Clone, Copy)]
 pub enum SpliceMode {
     Program(SpliceTime),
@@ -26,12 +26,13 @@ pub enum SpliceMode {
 pub struct InsertDetail {
     pub network_indicator: NetworkIndicator,
     pub splice_mode: SpliceMode,
-    pub duration: Break,
+    pub duration: Option<SpliceDuration>,
     pub unique_program_id: u16,
     pub avail_num: u8,
     pub avails_expected: u8,
 }
 
+// No Option: a cancelled event is no absence, and a cue that cancels asks for something.
 #[derive(Clone, Copy)]
 pub enum SpliceDetail {
     Cancel,
@@ -45,31 +46,6 @@ pub struct SpliceInsert {
     pub splice_detail: SpliceDetail,
 }
 
-#[derive(Clone, Copy)]
-pub enum InsertRead {
-    Got(SpliceInsert),
-    Lacks(Short),
-}
-
-// A part of an insert and the place of the byte after it: each part starts and ends with a byte.
-#[derive(Clone, Copy)]
-struct Moded {
-    pub mode: SpliceMode,
-    pub next: usize,
-}
-
-#[derive(Clone, Copy)]
-enum ModedRead {
-    Got(Moded),
-    Lacks(Short),
-}
-
-#[derive(Clone, Copy)]
-enum ActiveRead {
-    Got(InsertDetail),
-    Lacks(Short),
-}
-
 fn indicator(out: bool) -> NetworkIndicator
     ensures { result ≡ pick out NetworkIndicator.Out NetworkIndicator.In }
 {
@@ -80,75 +56,80 @@ fn indicator(out: bool) -> NetworkIndicator
 }
 
 // A splice_time() unless the splice is immediate, from a byte on.
-pub(crate) fn read_time_unless(payload: &[u8], at: usize, immediate: bool) -> TimeRead
+pub(crate) fn read_time_unless(
+    payload: &[u8],
+    at: usize,
+    immediate: bool,
+) -> Result<Field<SpliceTime, Cursor>, Short>
     ensures { result ≡ time_read (parse (time_unless immediate) (bits_of payload.now) (at * 8)) }
 {
     if immediate {
-        return TimeRead::Got(Timed {
-            time: SpliceTime::Immediate,
+        return Ok(Field {
+            value: SpliceTime::Immediate,
             next: Cursor { byte: at, bit: 0 },
         });
     }
     read_aligned_time(payload, at)
 }
 
-fn read_mode(payload: &[u8], at: usize, program: bool, immediate: bool) -> ModedRead
+// The mode and the place of the byte after it: each part of an insert starts and ends with a byte.
+fn read_mode(
+    payload: &[u8],
+    at: usize,
+    program: bool,
+    immediate: bool,
+) -> Result<Field<SpliceMode, usize>, Short>
     ensures { result ≡ moded_read (parse (moded program immediate) (bits_of payload.now) (at * 8)) }
 {
     if program {
-        return match read_time_unless(payload, at, immediate) {
-            TimeRead::Got(t) => {
-                let time = t.time;
-                let next = t.next;
-                ModedRead::Got(Moded {
-                    mode: SpliceMode::Program(time),
-                    next: next.byte,
-                })
-            }
-            TimeRead::Lacks(e) => ModedRead::Lacks(e),
-        };
+        let timed = read_time_unless(payload, at, immediate)?;
+        return Ok(Field {
+            value: SpliceMode::Program(timed.value),
+            next: timed.next.byte,
+        });
     }
     if payload.len() <= at {
-        return ModedRead::Lacks(Short {
+        return Err(Short {
             expected: 1,
             actual: 0,
         });
     }
     let count = payload[at];
-    match skim(payload, at + 1, count as usize, immediate) {
-        Skimmed::Got(next) => ModedRead::Got(Moded {
-            mode: SpliceMode::Components(count),
-            next,
-        }),
-        Skimmed::Lacks(e) => ModedRead::Lacks(e),
-    }
+    let next = skim(payload, at + 1, count as usize, immediate)?;
+    Ok(Field {
+        value: SpliceMode::Components(count),
+        next,
+    })
 }
 
 // From the duration on. The answer is the same whichever components stand beside the mode.
-fn read_ending(payload: &[u8], at: usize, out: bool, mode: SpliceMode, flagged: bool) -> ActiveRead
+fn read_ending(
+    payload: &[u8],
+    at: usize,
+    out: bool,
+    mode: SpliceMode,
+    flagged: bool,
+) -> Result<InsertDetail, Short>
     requires { at ≤ length payload.now }
     ensures { (cs : List InsertComponent) → result ≡ active_read (parse (ending out (record { value = mode; components = cs }) flagged) (bits_of payload.now) (at * 8)) }
 {
-    let broken = match read_break(payload, at, flagged) {
-        BreakRead::Got(b) => b,
-        BreakRead::Lacks(e) => return ActiveRead::Lacks(e),
-    };
-    let duration = broken.duration;
+    let broken = read_break(payload, at, flagged)?;
+    let duration = broken.value;
     let at = broken.next;
     let left = payload.len() - at;
     if left < 2 {
-        return ActiveRead::Lacks(Short {
+        return Err(Short {
             expected: 2,
             actual: left,
         });
     }
     if left < 4 {
-        return ActiveRead::Lacks(Short {
+        return Err(Short {
             expected: 1,
             actual: 0,
         });
     }
-    ActiveRead::Got(InsertDetail {
+    Ok(InsertDetail {
         network_indicator: indicator(out),
         splice_mode: mode,
         duration,
@@ -159,11 +140,11 @@ fn read_ending(payload: &[u8], at: usize, out: bool, mode: SpliceMode, flagged: 
 }
 
 // What is not cancelled, from a byte on.
-fn read_active(payload: &[u8], at: usize) -> ActiveRead
+fn read_active(payload: &[u8], at: usize) -> Result<InsertDetail, Short>
     ensures { result ≡ active_read (parse active (bits_of payload.now) (at * 8)) }
 {
     if payload.len() <= at {
-        return ActiveRead::Lacks(Short {
+        return Err(Short {
             expected: 0,
             actual: 0,
         });
@@ -171,27 +152,24 @@ fn read_active(payload: &[u8], at: usize) -> ActiveRead
     let flags = wide(payload[at]);
     let program = flags / 64 % 2 == 1;
     let immediate = flags / 16 % 2 == 1;
-    let moded = match read_mode(payload, at + 1, program, immediate) {
-        ModedRead::Got(m) => m,
-        ModedRead::Lacks(e) => return ActiveRead::Lacks(e),
-    };
-    let mode = moded.mode;
+    let moded = read_mode(payload, at + 1, program, immediate)?;
+    let mode = moded.value;
     let next = moded.next;
     read_ending(payload, next, flags / 128 == 1, mode, flags / 32 % 2 == 1)
 }
 
 // The insert of a payload.
-pub fn read_insert(payload: &[u8]) -> InsertRead
+pub fn read_insert(payload: &[u8]) -> Result<SpliceInsert, Short>
     ensures { result ≡ insert_read (parse insert (bits_of payload.now) 0) }
 {
     if payload.len() < 4 {
-        return InsertRead::Lacks(Short {
+        return Err(Short {
             expected: 4,
             actual: payload.len(),
         });
     }
     if payload.len() < 5 {
-        return InsertRead::Lacks(Short {
+        return Err(Short {
             expected: 0,
             actual: 0,
         });
@@ -200,18 +178,16 @@ pub fn read_insert(payload: &[u8]) -> InsertRead
     let flags = payload[4];
     let reserved = flags % 128;
     if 128 <= flags {
-        return InsertRead::Got(SpliceInsert {
+        return Ok(SpliceInsert {
             splice_event_id,
             reserved,
             splice_detail: SpliceDetail::Cancel,
         });
     }
-    match read_active(payload, 5) {
-        ActiveRead::Got(i) => InsertRead::Got(SpliceInsert {
-            splice_event_id,
-            reserved,
-            splice_detail: SpliceDetail::Insert(i),
-        }),
-        ActiveRead::Lacks(e) => InsertRead::Lacks(e),
-    }
+    let detail = read_active(payload, 5)?;
+    Ok(SpliceInsert {
+        splice_event_id,
+        reserved,
+        splice_detail: SpliceDetail::Insert(detail),
+    })
 }

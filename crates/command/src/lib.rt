@@ -10,8 +10,8 @@ ghost use Rattle.splice_time.specs.Time.{splice_time};
 ghost use Rattle.table.specs.Bits.{bits_of};
 ghost use Rattle.table.specs.Table.{parse};
 
-use crate::insert::{InsertRead, SpliceInsert, read_insert};
-use splice_time::{SpliceTime, TimeRead, read_aligned_time};
+use crate::insert::{SpliceInsert, read_insert};
+use splice_time::{SpliceTime, read_aligned_time};
 use table::View;
 use table::numbers::big_endian;
 
@@ -33,56 +33,53 @@ pub enum SpliceCommand {
     PrivateCommand(Private),
 }
 
-// A command; or refusal 10, a type that none has; or refusal 11, a malformed payload.
-#[derive(Clone, Copy)]
-pub enum CommandRead {
-    Is(SpliceCommand),
+// Refusals 10, a type that none has, and 11, a malformed payload.
+#[derive(Clone, Copy, Debug, PartialEq, Eq)]
+pub enum CommandRefusal {
     UnknownType,
     Malformed,
 }
 
-impl CommandRead {
-    // Document 01's number, 0 of a command.
-    pub fn number(self) -> u8
-        ensures { result ≡ number_of self }
-    {
-        match self {
-            CommandRead::Is(_) => 0,
-            CommandRead::UnknownType => 10,
-            CommandRead::Malformed => 11,
-        }
+// Document 01's number of a reading, 0 of a command.
+pub fn number(read: Result<SpliceCommand, CommandRefusal>) -> u8
+    ensures { result ≡ number_of read }
+{
+    match read {
+        Ok(_) => 0,
+        Err(CommandRefusal::UnknownType) => 10,
+        Err(CommandRefusal::Malformed) => 11,
     }
 }
 
-fn read_empty(payload: &[u8], command: SpliceCommand) -> CommandRead
+fn read_empty(payload: &[u8], command: SpliceCommand) -> Result<SpliceCommand, CommandRefusal>
     ensures { result ≡ empty command payload.now }
 {
     if payload.len() == 0 {
-        return CommandRead::Is(command);
+        return Ok(command);
     }
-    CommandRead::Malformed
+    Err(CommandRefusal::Malformed)
 }
 
-fn read_time_signal(payload: &[u8]) -> CommandRead
+fn read_time_signal(payload: &[u8]) -> Result<SpliceCommand, CommandRefusal>
     ensures { result ≡ read SpliceCommand.TimeSignal (parse splice_time (bits_of payload.now) 0) }
 {
     match read_aligned_time(payload, 0) {
-        TimeRead::Got(t) => {
-            let time = t.time;
-            CommandRead::Is(SpliceCommand::TimeSignal(time))
+        Ok(t) => {
+            let time = t.value;
+            Ok(SpliceCommand::TimeSignal(time))
         }
-        TimeRead::Lacks(_) => CommandRead::Malformed,
+        Err(_) => Err(CommandRefusal::Malformed),
     }
 }
 
-fn read_private(payload: &[u8]) -> CommandRead
+fn read_private(payload: &[u8]) -> Result<SpliceCommand, CommandRefusal>
     ensures { result ≡ read SpliceCommand.PrivateCommand (parse private (bits_of payload.now) 0) }
 {
     if payload.len() < 4 {
-        return CommandRead::Malformed;
+        return Err(CommandRefusal::Malformed);
     }
     let identifier = big_endian(payload, 0, 4) as u32;
-    CommandRead::Is(SpliceCommand::PrivateCommand(Private {
+    Ok(SpliceCommand::PrivateCommand(Private {
         identifier,
         private_bytes: View {
             at: 4,
@@ -91,17 +88,17 @@ fn read_private(payload: &[u8]) -> CommandRead
     }))
 }
 
-fn read_splice_insert(payload: &[u8]) -> CommandRead
+fn read_splice_insert(payload: &[u8]) -> Result<SpliceCommand, CommandRefusal>
     ensures { result ≡ read (λ x. SpliceCommand.SpliceInsert x.value) (parse insert (bits_of payload.now) 0) }
 {
     match read_insert(payload) {
-        InsertRead::Got(i) => return CommandRead::Is(SpliceCommand::SpliceInsert(i)),
-        InsertRead::Lacks(_) => return CommandRead::Malformed,
+        Ok(i) => return Ok(SpliceCommand::SpliceInsert(i)),
+        Err(_) => return Err(CommandRefusal::Malformed),
     }
 }
 
 // The command of a type other than the two that `read_command` reads itself. It is long, and not only `read_apart` calls it: so the compiler leaves it a call.
-pub(crate) fn read_other(command_type: u8, payload: &[u8]) -> CommandRead
+pub(crate) fn read_other(command_type: u8, payload: &[u8]) -> Result<SpliceCommand, CommandRefusal>
     requires { Apart command_type }
     ensures { result ≡ command_of command_type payload.now }
 {
@@ -110,12 +107,12 @@ pub(crate) fn read_other(command_type: u8, payload: &[u8]) -> CommandRead
         0x05 => return read_splice_insert(payload),
         0x07 => return read_empty(payload, SpliceCommand::BandwidthReservation),
         0xFF => return read_private(payload),
-        _ => return CommandRead::UnknownType,
+        _ => return Err(CommandRefusal::UnknownType),
     }
 }
 
 // What `read_other` reads, with an answer of its own: one that it is handed stays in memory as a whole, and `read_command`'s is taken apart.
-fn read_apart(command_type: u8, payload: &[u8]) -> CommandRead
+fn read_apart(command_type: u8, payload: &[u8]) -> Result<SpliceCommand, CommandRefusal>
     requires { Apart command_type }
     ensures { result ≡ command_of command_type payload.now }
 {
@@ -123,7 +120,7 @@ fn read_apart(command_type: u8, payload: &[u8]) -> CommandRead
 }
 
 // The command of a type, in its payload. It is short, so that the compiler puts it in place of its calls.
-pub fn read_command(command_type: u8, payload: &[u8]) -> CommandRead
+pub fn read_command(command_type: u8, payload: &[u8]) -> Result<SpliceCommand, CommandRefusal>
     ensures { result ≡ command_of command_type payload.now }
 {
     match command_type {

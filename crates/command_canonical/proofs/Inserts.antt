@@ -1,5 +1,5 @@
 -- splice_insert(), by the bytes that its parts begin with.
-use Prim.Native.Nat.{ℕ, suc, ◌+◌, ◌*◌, ◌-◌, ◌/◌, ◌%◌, ◌^◌, ◌<◌, ◌≤◌}
+use Prim.Native.Nat.{ℕ, suc, ◌+◌, ◌*◌, ◌/◌, ◌%◌, ◌^◌, ◌<◌, ◌≤◌}
 use mathlib.Core.Bool.{Bool, true, false, not}
 use mathlib.Core.List.{List, []}
 use mathlib.Core.Path.{◌≡◌, refl, ap, sym, ◌∙◌}
@@ -10,7 +10,6 @@ use borrow.Author.Tests.{ne_eqb, lt-ltb, not-true, not-false}
 use Rattle.command.specs.Insert.{WithComponents, time_unless, component, blank, moded, ending, active, insert, mode_of, active_of}
 use Rattle.splice_time.specs.Break.{break_duration, auto_return, break_ticks}
 use Rattle.command.specs.declared.components.InsertComponent.{InsertComponent}
-use Rattle.splice_time.specs.declared.break_duration.Break.{Break}
 use Rattle.command.specs.declared.insert.InsertDetail.{InsertDetail}
 use Rattle.command.specs.declared.insert.SpliceMode.{SpliceMode}
 use Rattle.splice_time.specs.Time.{splice_time}
@@ -19,9 +18,9 @@ use Rattle.table.specs.Bits.{pick, bits_of, field}
 use Rattle.table.specs.Table.{Table, inside, ones, list}
 use Rattle.table.proofs.Fields.{field_in, byte_field}
 use Rattle.command_canonical.specs.Private.{Stands, Fails, Told}
-use Rattle.command_canonical.specs.declared.Form.{Form}
 use Rattle.command_canonical.proofs.Times.{first_bit, last_seven, stands_six, fails_six, lacks_six}
 use Rattle.command_canonical.proofs.Walks.{stands_done, stands_number, fails_number, lacks_number, stands_flag, fails_flag, lacks_flag, stands_ones, fails_one, fails_ones, stands_must, fails_must, fails_past, stands_in, fails_in, fails_after, stands_list, fails_first, fails_list, stands_at, fails_at}
+use Rattle.std.proofs.Common.{Some, None, Option}
 
 -- ---- a splice_time unless immediate
 module _ (s : List ℕ) (i : ℕ) where
@@ -29,7 +28,7 @@ module _ (s : List ℕ) (i : ℕ) where
   unfolding time_unless
   at_once b e = rw e (stands_done s (i * 8) Immediate _ refl)
 
-  pub at_a_time : (b : Bool) (r : Form) → b ≡ false → Told splice_time s i r → Told (time_unless b) s i r
+  pub at_a_time : (b : Bool) (r : Option ℕ) → b ≡ false → Told splice_time s i r → Told (time_unless b) s i r
   unfolding time_unless
   at_a_time b r e h = rw e h
 
@@ -57,11 +56,6 @@ pub record Ahead (s : List ℕ) (b : Bool) (count i ahead j : ℕ) : Type 0 wher
 pub all_ahead : (s : List ℕ) (b : Bool) (count i : ℕ) → Ahead s b count i count i
 all_ahead s b count i = record { stands = λ m a. a; fails = λ f. f }
 
-pub one_more : (s : List ℕ) (b : Bool) (count i n j : ℕ) → 0 < n → Ahead s b count i n j → Ahead s b count i (suc (n - 1)) j
-one_more s b count i n j l h =
-    let e : suc (n - 1) ≡ n = omega arith in
-    rw e h
-
 module _ (s : List ℕ) (b : Bool) (count i n j : ℕ) (h : Ahead s b count i (suc n) j) where
   pub stops : Fails (component b) s (j * 8) → Fails (list count blank (component b)) s (i * 8)
   stops f = h.fails (fails_first n blank (component b) s (j * 8) f)
@@ -80,10 +74,10 @@ none_ahead s b count i n j h z =
 
 -- ---- the mode
 module _ (s : List ℕ) (i : ℕ) (p b : Bool) where
-  pub by_program_lem : (r : Form) → p ≡ true → Told (time_unless b) s i r → Told (moded p b) s i r
+  pub by_program_lem : (r : Option ℕ) → p ≡ true → Told (time_unless b) s i r → Told (moded p b) s i r
   unfolding moded
-  by_program_lem (Form.Ends e) on a = rw on (stands_in (time_unless b) _ _ s (i * 8) (e * 8) a (e * 8) (stands_done s (e * 8) _ _ refl))
-  by_program_lem Form.Other on f = rw on (fails_in (time_unless b) _ _ s (i * 8) f)
+  by_program_lem (Some e) on a = rw on (stands_in (time_unless b) _ _ s (i * 8) (e * 8) a (e * 8) (stands_done s (e * 8) _ _ refl))
+  by_program_lem None on f = rw on (fails_in (time_unless b) _ _ s (i * 8) f)
 
   module _ (off : p ≡ false) where
     pub no_count : length s ≤ i → Fails (moded p b) s (i * 8)
@@ -112,14 +106,14 @@ module _ (s : List ℕ) (i : ℕ) (p b : Bool) where
       abbrev listed : Table (List InsertComponent)
       listed = list (get_or s i 0) blank (component b)
 
-      pub by_components : (r : Form) → 0 < get_or s i 0 → Told listed s (i + 1) r → Told (moded p b) s i r
+      pub by_components : (r : Option ℕ) → 0 < get_or s i 0 → Told listed s (i + 1) r → Told (moded p b) s i r
       unfolding moded
-      by_components (Form.Ends e) h a =
+      by_components (Some e) h a =
           rw off
           (stands_number s (i * 8) 8 _ _ (get_or s i 0) _ (omega arith) counted
           (stands_must s (i * 8 + 8) _ _ _ (asked b h)
           (stands_in listed _ _ s (i * 8 + 8) (e * 8) (stands_at listed s (i * 8 + 8) ((i + 1) * 8) (e * 8) (omega arith) a) (e * 8) (stands_done s (e * 8) _ _ refl))))
-      by_components Form.Other h f =
+      by_components None h f =
           rw off
           (fails_number s (i * 8) 8 _ _ (get_or s i 0) counted
           (fails_past s (i * 8 + 8) _ _ (fails_in listed _ _ s (i * 8 + 8) (fails_at listed s (i * 8 + 8) ((i + 1) * 8) (omega arith) f))))
@@ -128,7 +122,7 @@ module _ (s : List ℕ) (i : ℕ) (p b : Bool) where
 module _ (s : List ℕ) (i : ℕ) (b : Bool) where
   pub no_break : not b ≡ true → Stands (break_duration b) s (i * 8) (i * 8)
   unfolding break_duration
-  no_break e = rw (not-true b e) (stands_done s (i * 8) Break.Absent _ refl)
+  no_break e = rw (not-true b e) (stands_done s (i * 8) None _ refl)
 
   module _ (on : not b ≡ false) where
     pub lacks_break : length s ≤ i → Fails (break_duration b) s (i * 8)
@@ -258,15 +252,15 @@ module _ (s : List ℕ) where
         (stands_flag s 32 _ _ true _ (omega arith) (is_cancel true (ap (λ (x : ℕ). eqb x 1) z))
         (stands_number s 33 7 _ _ 127 _ (omega arith) (kept 127 (omega arith)) (stands_must s 40 true _ _ refl (stands_done s 40 _ _ refl))))
 
-    pub an_insert : (r : Form) → get_or s 4 0 ≡ 0x7f → Told active s 5 r → Told insert s 0 r
+    pub an_insert : (r : Option ℕ) → get_or s 4 0 ≡ 0x7f → Told active s 5 r → Told insert s 0 r
     unfolding insert
-    an_insert (Form.Ends n) e a =
+    an_insert (Some n) e a =
         let z : get_or s 4 0 / 128 % 2 ≡ 0 = omega arith in
         stands_number s 0 32 _ _ _ _ (omega arith) refl
         (stands_flag s 32 _ _ false _ (omega arith) (is_cancel false (ap (λ (x : ℕ). eqb x 1) z))
         (stands_number s 33 7 _ _ 127 _ (omega arith) (kept 127 (omega arith))
         (stands_must s 40 true _ _ refl (stands_in active active_of _ s 40 (n * 8) a _ (stands_done s (n * 8) _ _ refl)))))
-    an_insert Form.Other e f =
+    an_insert None e f =
         let z : get_or s 4 0 / 128 % 2 ≡ 0 = omega arith in
         fails_number s 0 32 _ _ _ refl
         (fails_flag s 32 _ _ false (is_cancel false (ap (λ (x : ℕ). eqb x 1) z))

@@ -15,7 +15,7 @@ use Rattle.table.specs.Bits.{bits_of, field}
 use Rattle.table.specs.Table.{Table, done, must, inside, number, bit, reserved, list, uimsbf, flag, ones, Answer, got, short, parse, canonical, takes_all, canonical_by}
 use Rattle.table.proofs.Steps.{takes_number, takes_flag, takes_ones, reads_number, reads_flag, reads_ones, takes_in, reads_in, canonical_inside}
 use Rattle.command_canonical.specs.Private.{Stands, Fails, Told, exact}
-use Rattle.command_canonical.specs.declared.Form.{Form}
+use Rattle.std.proofs.Common.{Some, None, Option}
 
 module _ {X : Type 0} (s : List ℕ) (at : ℕ) where
   pub stands_done : (y : X) (m : ℕ) → at ≡ m → Stands (done y) s at m
@@ -141,11 +141,11 @@ pub fails_at : {X : Type 0} (t : Table X) (s : List ℕ) (a b : ℕ) → a ≡ b
 fails_at t s a b e f = rw e f
 
 -- ---- what a walk answers, case by case
-module _ {X : Type 0} (t : Table X) (s : List ℕ) (at : ℕ) (r : Form) where
-  pub told_ends : (n : ℕ) → Told t s at r → r ≡ Form.Ends n → Stands t s (at * 8) (n * 8)
+module _ {X : Type 0} (t : Table X) (s : List ℕ) (at : ℕ) (r : Option ℕ) where
+  pub told_ends : (n : ℕ) → Told t s at r → r ≡ Some n → Stands t s (at * 8) (n * 8)
   told_ends n h e = rw e at h
 
-  pub told_other : Told t s at r → r ≡ Form.Other → Fails t s (at * 8)
+  pub told_other : Told t s at r → r ≡ None → Fails t s (at * 8)
   told_other h e = rw e at h
 
 -- ---- the whole payload
@@ -170,6 +170,6 @@ module _ {X : Type 0} (t : Table X) (s : List ℕ) where
       go (short a b) e = refl
 
   -- what a walk from the first byte on says of the whole
-  pub exact_is : (r : Form) → Told t s 0 r → exact r (length s) ≡ canonical_by t s
-  exact_is (Form.Ends n) a = by_table n a
-  exact_is Form.Other f = not_by_table f
+  pub exact_is : (r : Option ℕ) → Told t s 0 r → exact r (length s) ≡ canonical_by t s
+  exact_is (Some n) a = by_table n a
+  exact_is None f = not_by_table f

@@ -1,8 +1,7 @@
 -- For the contracts of private functions. No public contract cites this.
-use Rattle.std.specs.Prelude.{ℕ, ◌*◌, Bool, true, false, List, ◌≡◌, eqb}
+use Rattle.std.specs.Prelude.{ℕ, ◌*◌, Bool, true, false, List, ◌≡◌, eqb, Some, None, Option}
 use Rattle.table.specs.Bits.{bits_of}
 use Rattle.table.specs.Table.{Table, got, parse, canonical}
-use Rattle.command_canonical.specs.declared.Form.{Form}
 
 -- from bit `at` on the table's fields are there, as the canonical form asks, and end before bit m
 pub record Stands {X : Type 0} (t : Table X) (s : List ℕ) (at m : ℕ) : Type 0 where
@@ -15,11 +14,11 @@ pub record Fails {X : Type 0} (t : Table X) (s : List ℕ) (at : ℕ) : Type 0 w
   pub other : (x : X) (m : ℕ) → parse t (bits_of s) at ≡ got x m → canonical t (bits_of s) at ≡ false
 
 -- what a walk from byte `at` on answers
-abbrev pub Told : {X : Type 0} → Table X → List ℕ → ℕ → Form → Type 0
-Told t s at (Form.Ends end) = Stands t s (at * 8) (end * 8)
-Told t s at Form.Other = Fails t s (at * 8)
+abbrev pub Told : {X : Type 0} → Table X → List ℕ → ℕ → Option ℕ → Type 0
+Told t s at (Some end) = Stands t s (at * 8) (end * 8)
+Told t s at None = Fails t s (at * 8)
 
 -- are the fields all of n bytes?
-abbrev pub exact : Form → ℕ → Bool
-exact (Form.Ends end) n = eqb n end
-exact Form.Other n = false
+abbrev pub exact : Option ℕ → ℕ → Bool
+exact (Some end) n = eqb n end
+exact None n = false

@@ -9,42 +9,35 @@ ghost use Rattle.splice_time.specs.Break.{break_duration};
 ghost use Rattle.splice_time.specs.Time.{splice_time};
 ghost use Rattle.table.specs.Table.{list, canonical_by};
 
-// What a walk along a table's fields answers: the byte after them, or that they are not all there in their canonical form.
-#[derive(Clone, Copy)]
-enum Form {
-    Ends(usize),
-    Other,
-}
-
 // Are the fields all of the payload, with no spare byte behind them?
-fn is_exact(s: &[u8], form: Form) -> bool
+fn is_exact(s: &[u8], form: Option<usize>) -> bool
     ensures { result ≡ exact form (length s.now) }
 {
     match form {
-        Form::Ends(end) => s.len() == end,
-        Form::Other => false,
+        Some(end) => s.len() == end,
+        None => false,
     }
 }
 
 // ---- splice_time()
 
 // Its flag and reserved bits are one byte: 0x7F where no time follows, 0xFE or 0xFF where one does.
-fn pass_time(s: &[u8], at: usize) -> Form
+fn pass_time(s: &[u8], at: usize) -> Option<usize>
     ensures { Told splice_time s.now at result }
 {
     if s.len() <= at {
-        return Form::Other;
+        return None;
     }
     if s[at] == 0x7F {
-        return Form::Ends(at + 1);
+        return Some(at + 1);
     }
     if s[at] < 0xFE {
-        return Form::Other;
+        return None;
     }
     if s.len() - at < 5 {
-        return Form::Other;
+        return None;
     }
-    Form::Ends(at + 5)
+    Some(at + 5)
 }
 
 fn is_canonical_time(s: &[u8]) -> bool
@@ -56,100 +49,98 @@ fn is_canonical_time(s: &[u8]) -> bool
 // ---- splice_insert()
 
 // A splice_time() unless the splice is immediate.
-fn pass_time_unless(s: &[u8], at: usize, immediate: bool) -> Form
+fn pass_time_unless(s: &[u8], at: usize, immediate: bool) -> Option<usize>
     ensures { Told (time_unless immediate) s.now at result }
 {
     if immediate {
-        return Form::Ends(at);
+        return Some(at);
     }
     pass_time(s, at)
 }
 
 // `count` components: each a tag and a time.
-fn pass_components(s: &[u8], at: usize, count: usize, immediate: bool) -> Form
+fn pass_components(s: &[u8], at: usize, count: usize, immediate: bool) -> Option<usize>
     ensures { Told (list count blank (component immediate)) s.now at result }
 {
     let mut next = at;
-    let mut ahead = count;
-    while 0 < ahead {
+    for _ in 0..count {
         if s.len() <= next {
-            return Form::Other;
+            return None;
         }
         match pass_time_unless(s, next + 1, immediate) {
-            Form::Ends(end) => {
+            Some(end) => {
                 next = end;
             }
-            Form::Other => return Form::Other,
+            None => return None,
         }
-        ahead -= 1;
     }
-    Form::Ends(next)
+    Some(next)
 }
 
 // By program, or by components; with none of these, immediate has to be 0.
-fn pass_mode(s: &[u8], at: usize, program: bool, immediate: bool) -> Form
+fn pass_mode(s: &[u8], at: usize, program: bool, immediate: bool) -> Option<usize>
     ensures { Told (moded program immediate) s.now at result }
 {
     if program {
         return pass_time_unless(s, at, immediate);
     }
     if s.len() <= at {
-        return Form::Other;
+        return None;
     }
     if s[at] == 0 {
         if immediate {
-            return Form::Other;
+            return None;
         }
-        return Form::Ends(at + 1);
+        return Some(at + 1);
     }
     pass_components(s, at + 1, s[at] as usize, immediate)
 }
 
 // A break_duration() if it is flagged: auto return, six reserved bits, and 33 more.
-fn pass_break(s: &[u8], at: usize, flagged: bool) -> Form
+fn pass_break(s: &[u8], at: usize, flagged: bool) -> Option<usize>
     ensures { Told (break_duration flagged) s.now at result }
 {
     if !flagged {
-        return Form::Ends(at);
+        return Some(at);
     }
     if s.len() <= at {
-        return Form::Other;
+        return None;
     }
     if s[at] / 2 % 64 != 63 {
-        return Form::Other;
+        return None;
     }
     if s.len() - at < 5 {
-        return Form::Other;
+        return None;
     }
-    Form::Ends(at + 5)
+    Some(at + 5)
 }
 
 // What is not cancelled, from byte 5 on. The four flags and the four reserved bits are one byte.
-fn pass_active(s: &[u8]) -> Form
+fn pass_active(s: &[u8]) -> Option<usize>
     ensures { Told active s.now 5 result }
 {
     if s.len() <= 5 {
-        return Form::Other;
+        return None;
     }
     let flags = s[5];
     if flags % 16 != 15 {
-        return Form::Other;
+        return None;
     }
     let moded = match pass_mode(s, 6, flags / 64 % 2 == 1, flags / 16 % 2 == 1) {
-        Form::Ends(end) => end,
-        Form::Other => return Form::Other,
+        Some(end) => end,
+        None => return None,
     };
     let broken = match pass_break(s, moded, flags / 32 % 2 == 1) {
-        Form::Ends(end) => end,
-        Form::Other => return Form::Other,
+        Some(end) => end,
+        None => return None,
     };
     if s.len() < broken {
-        return Form::Other;
+        return None;
     }
     if s.len() - broken < 4 {
-        return Form::Other;
+        return None;
     }
-    Form::Ends(broken + 4)
+    Some(broken + 4)
 }
 
 // The cancel flag and the seven reserved bits are byte 4.

@@ -20,7 +20,6 @@ use Rattle.splice_time.specs.Break.{lasting, break_ticks}
 use Rattle.command.specs.declared.Private.{Private}
 use Rattle.command.specs.declared.SpliceCommand.{SpliceCommand}
 use Rattle.command.specs.declared.components.InsertComponent.{InsertComponent}
-use Rattle.splice_time.specs.declared.break_duration.Break.{Break}
 use Rattle.command.specs.declared.insert.InsertDetail.{InsertDetail}
 use Rattle.command.specs.declared.insert.SpliceInsert.{SpliceInsert}
 use Rattle.command.specs.declared.insert.SpliceDetail.{SpliceDetail}
@@ -45,6 +44,8 @@ use Rattle.command_measure.specs.declared.Measured.{Measured}
 use Rattle.command_measure.specs.declared.measure.Survey.{Survey}
 use Rattle.command_measure.proofs.Surveys.{survey_fits, survey_alike, survey_blanks}
 use Rattle.command_measure.proofs.Ties.{time_fields_lem, insert_fields_lem}
+use Rattle.std.proofs.Common.{Some, None, Option}
+use Rattle.splice_time.specs.declared.break_duration.SpliceDuration.{SpliceDuration}
 
 and_one : (b : Bool) → b && true ≡ b
 and_one true = refl
@@ -164,21 +165,21 @@ plain_mode : (b : Bool) (k : SpliceMode) (cs : List InsertComponent) → Plain (
 plain_mode b (SpliceMode.Program t) cs = plain_unless b t
 plain_mode b (SpliceMode.Components n) cs = plain_list b cs
 
-plain_break : (d : Break) → Plain (break_fields d)
-plain_break Break.Absent = tt
-plain_break (Break.Lasts d) = tt
+plain_break : (d : Option SpliceDuration) → Plain (break_fields d)
+plain_break None = tt
+plain_break (Some d) = tt
 
 pub flag_within : (b : Bool) → ltb (flag_number b) 2 ≡ true
 flag_within true = refl
 flag_within false = refl
 
-pub within_break : (d : Break) → within (break_fields d) ≡ ltb (break_ticks d) (2 ^ 33)
-within_break Break.Absent = refl
-within_break (Break.Lasts d) = rw (flag_within (automatic d.return_mode)) (and_one (ltb d.duration (2 ^ 33)))
+pub within_break : (d : Option SpliceDuration) → within (break_fields d) ≡ ltb (break_ticks d) (2 ^ 33)
+within_break None = refl
+within_break (Some d) = rw (flag_within (automatic d.return_mode)) (and_one (ltb d.duration (2 ^ 33)))
 
-past_break : (d : Break) (at : ℕ) → past (break_fields d) at ≡ at + break_bytes d * 8
-past_break Break.Absent at = omega arith
-past_break (Break.Lasts d) at = omega arith
+past_break : (d : Option SpliceDuration) (at : ℕ) → past (break_fields d) at ≡ at + break_bytes d * 8
+past_break None at = omega arith
+past_break (Some d) at = omega arith
 
 module _ (i : InsertDetail) (cs : List InsertComponent) where
   past_mode : (k : SpliceMode) (b : Bool) (at : ℕ) → b ≡ insert.all_immediate (record { value = k; components = cs }) → past (mode_fields b k cs) at ≡ at + mode_bytes k (surveyed b cs).bytes * 8

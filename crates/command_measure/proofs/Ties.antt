@@ -7,7 +7,6 @@ use lib.ListN.{length, get_or, drop}
 use Rattle.command.specs.Insert.{WithComponents, time_unless, component, blank, by_program, count, moded, out_of_network, mode_of, ending, active, insert_of, active_of, insert}
 use Rattle.splice_time.specs.Break.{lasting, break_duration}
 use Rattle.command.specs.declared.components.InsertComponent.{InsertComponent}
-use Rattle.splice_time.specs.declared.break_duration.Break.{Break}
 use Rattle.command.specs.declared.insert.InsertDetail.{InsertDetail}
 use Rattle.command.specs.declared.insert.SpliceInsert.{SpliceInsert}
 use Rattle.command.specs.declared.insert.SpliceDetail.{SpliceDetail}
@@ -21,6 +20,8 @@ use Rattle.table.specs.Writing.{Field, bits, walk}
 use Rattle.table.proofs.Lists.{append_nil}
 use Rattle.table.proofs.Walks.{past}
 use Rattle.command_measure.specs.Fields.{time_fields, unless_fields, component_fields, list_fields, mode_fields, break_fields, tail_fields, end_fields, immediate_in, active_fields, insert_fields}
+use Rattle.std.proofs.Common.{Some, None, Option}
+use Rattle.splice_time.specs.declared.break_duration.SpliceDuration.{SpliceDuration}
 
 pub time_fields_lem : (t : SpliceTime) (at : ℕ) → (walk splice_time t at).fields ≡ time_fields t
 unfolding splice_time number bit reserved
@@ -62,10 +63,10 @@ moded_fields b (SpliceMode.Components n) cs at e =
     (last_in (list n blank (component b)) (λ (m : WithComponents SpliceMode). m.components) _ x (at + 8)
     ∙ ap (λ (k : ℕ). (walk (list k blank (component b)) cs (at + 8)).fields) (sym e) ∙ list_fields_lem b cs (at + 8))
 
-break_fields_lem : (d : Break) (at : ℕ) → (walk (break_duration (lasting d)) d at).fields ≡ break_fields d
+break_fields_lem : (d : Option SpliceDuration) (at : ℕ) → (walk (break_duration (lasting d)) d at).fields ≡ break_fields d
 unfolding break_duration number bit reserved
-break_fields_lem Break.Absent at = refl
-break_fields_lem (Break.Lasts d) at = refl
+break_fields_lem None at = refl
+break_fields_lem (Some d) at = refl
 
 ending_fields : (out : Bool) (m : WithComponents SpliceMode) (x : WithComponents InsertDetail) (at : ℕ) → (walk (ending out m (lasting x.value.duration)) x at).fields ≡ end_fields x.value
 unfolding ending number

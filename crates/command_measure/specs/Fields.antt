@@ -1,10 +1,9 @@
 -- What an insert has in the fields of its table, one after the other. No public contract cites this.
-use Rattle.std.specs.Prelude.{ℕ, Bool, List, [], ◌∷◌, ◌++◌, take}
+use Rattle.std.specs.Prelude.{ℕ, Bool, List, [], ◌∷◌, ◌++◌, take, Some, None, Option}
 use Rattle.command.specs.Insert.{WithComponents, by_program, count, all_immediate, out_of_network, cancelled}
 use Rattle.splice_time.specs.Break.{lasting, auto_return}
 use Rattle.command.specs.declared.Private.{Private}
 use Rattle.command.specs.declared.components.InsertComponent.{InsertComponent}
-use Rattle.splice_time.specs.declared.break_duration.Break.{Break}
 use Rattle.command.specs.declared.insert.InsertDetail.{InsertDetail}
 use Rattle.command.specs.declared.insert.SpliceInsert.{SpliceInsert}
 use Rattle.command.specs.declared.insert.SpliceDetail.{SpliceDetail}
@@ -16,6 +15,7 @@ use Rattle.table.specs.Bits.{pick, bits_of_num, bits_of}
 use Rattle.table.specs.Lent.{viewed}
 use Rattle.table.specs.Table.{flag_number}
 use Rattle.table.specs.Writing.{Field, bits, contents, print}
+use Rattle.splice_time.specs.declared.break_duration.SpliceDuration.{SpliceDuration}
 
 -- their bits
 abbrev pub ink : List Field → List ℕ
@@ -39,11 +39,11 @@ mode_fields b (SpliceMode.Program t) cs = unless_fields b t
 mode_fields b (SpliceMode.Components n) cs = bits 8 n ∷ list_fields b cs
 
 abbrev pub automatic : ReturnMode → Bool
-automatic m = auto_return (Break.Lasts (record { return_mode = m; duration = 0 }))
+automatic m = auto_return (Some (record { return_mode = m; duration = 0 }))
 
-abbrev pub break_fields : Break → List Field
-break_fields Break.Absent = []
-break_fields (Break.Lasts d) = bits 1 (flag_number (automatic d.return_mode)) ∷ bits 6 63 ∷ bits 33 d.duration ∷ []
+abbrev pub break_fields : Option SpliceDuration → List Field
+break_fields None = []
+break_fields (Some d) = bits 1 (flag_number (automatic d.return_mode)) ∷ bits 6 63 ∷ bits 33 d.duration ∷ []
 
 abbrev pub tail_fields : ℕ → ℕ → ℕ → List Field
 tail_fields id avail expected = bits 16 id ∷ bits 8 avail ∷ bits 8 expected ∷ []

@@ -1,16 +1,16 @@
 -- What a writer asks of an insert's components in one pass. No public contract cites this.
-use Rattle.std.specs.Prelude.{ℕ, ◌+◌, ◌*◌, ◌^◌, Bool, true, not, ◌&&◌, List, [], ◌∷◌, ltb, eqb}
+use Rattle.std.specs.Prelude.{ℕ, ◌+◌, ◌*◌, ◌^◌, Bool, true, not, ◌&&◌, List, [], ◌∷◌, ltb, eqb, Some, None, Option}
 use Rattle.command.specs.Insert as insert
 use Rattle.splice_time.specs.Break.{break_ticks}
 use Rattle.command.specs.Insert.{immediate, program_time}
 use Rattle.command.specs.declared.components.InsertComponent.{InsertComponent}
-use Rattle.splice_time.specs.declared.break_duration.Break.{Break}
 use Rattle.command.specs.declared.insert.SpliceMode.{SpliceMode}
 use Rattle.splice_time.specs.Time.{specified, ticks}
 use Rattle.splice_time.specs.declared.SpliceTime.{SpliceTime}
 use Rattle.table.specs.Bits.{pick}
 use Rattle.command_measure.specs.declared.measure.Survey.{Survey}
 use Rattle.command_measure.specs.declared.Measured.{Measured}
+use Rattle.splice_time.specs.declared.break_duration.SpliceDuration.{SpliceDuration}
 
 -- the bytes of a time, none where the insert is immediate
 abbrev pub time_bytes : Bool → SpliceTime → ℕ
@@ -37,9 +37,9 @@ abbrev pub mode_bytes : SpliceMode → ℕ → ℕ
 mode_bytes (SpliceMode.Program t) n = time_bytes (immediate t) t
 mode_bytes (SpliceMode.Components k) n = 1 + n
 
-abbrev pub break_bytes : Break → ℕ
-break_bytes Break.Absent = 0
-break_bytes (Break.Lasts d) = 5
+abbrev pub break_bytes : Option SpliceDuration → ℕ
+break_bytes None = 0
+break_bytes (Some d) = 5
 
 -- by what 32 asks, by what 33 asks, and the size
 abbrev pub measured : Bool → Bool → ℕ → Measured
@@ -52,7 +52,7 @@ measured fits writable size =
 abbrev pub cancel_measured : ℕ → Measured
 cancel_measured reserved = measured (ltb reserved 128) (eqb reserved 127) 5
 
-unfoldable pub active_measured : ℕ → SpliceMode → Break → Survey → Measured
+unfoldable pub active_measured : ℕ → SpliceMode → Option SpliceDuration → Survey → Measured
 active_measured reserved mode duration s =
     measured (s.fits && (ltb reserved 128 && (ltb (ticks (program_time mode)) (2 ^ 33) && ltb (break_ticks duration) (2 ^ 33)))) (eqb reserved 127 && s.alike)
     (10 + mode_bytes mode s.bytes + break_bytes duration)

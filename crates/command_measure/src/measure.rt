@@ -14,7 +14,7 @@ use crate::Measured;
 use command::components::{InsertComponent, MAX_COMPONENTS};
 use command::insert::{InsertDetail, SpliceDetail, SpliceInsert, SpliceMode};
 use splice_time::SpliceTime;
-use splice_time::break_duration::Break;
+use splice_time::break_duration::SpliceDuration;
 
 fn both(a: bool, b: bool) -> bool
     ensures { result ≡ a && b }
@@ -135,11 +135,8 @@ fn look(components: [InsertComponent; MAX_COMPONENTS], count: usize, at_once: bo
         alike: true,
         bytes: 0,
     };
-    let mut i = count;
-    while 0 < i {
-        i -= 1;
-        let component = components[i];
-        s = add_component(s, at_once, component);
+    for i in (0..count).rev() {
+        s = add_component(s, at_once, components[i]);
     }
     s
 }
@@ -184,12 +181,12 @@ fn mode_fits(mode: SpliceMode) -> bool
     }
 }
 
-fn break_fits(duration: Break) -> bool
+fn break_fits(duration: Option<SpliceDuration>) -> bool
     ensures { result ≡ ltb (break_ticks duration) (2 ^ 33) }
 {
     match duration {
-        Break::Absent => true,
-        Break::Lasts(d) => d.duration < 0x2_0000_0000,
+        None => true,
+        Some(d) => d.duration < 0x2_0000_0000,
     }
 }
 
@@ -207,12 +204,12 @@ fn mode_size(mode: SpliceMode, bytes: usize) -> usize
     }
 }
 
-fn break_size(duration: Break) -> usize
+fn break_size(duration: Option<SpliceDuration>) -> usize
     ensures { (result ≡ break_bytes duration) × (result ≤ 5) }
 {
     match duration {
-        Break::Absent => 0,
-        Break::Lasts(_) => 5,
+        None => 0,
+        Some(_) => 5,
     }
 }
 

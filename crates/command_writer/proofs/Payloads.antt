@@ -21,7 +21,6 @@ use Rattle.splice_time.specs.declared.SpliceTime.{SpliceTime}
 use Rattle.bit_stores.specs.Pen.{Pens, penned}
 use Rattle.bit_stores.specs.Private.{Fits}
 use Rattle.bit_stores.specs.Written.{answer_of, later_of, refusal_in, bytes_in}
-use Rattle.bit_stores.specs.declared.Written.{Written}
 use Rattle.bit_stores.proofs.Penned.{penned_stored}
 use Rattle.bit_stores.proofs.Turns.{place_is}
 use Rattle.bit_stores.proofs.Writes.{refusal_made, refused_answer, short_answer, wrote_answer}
@@ -41,6 +40,7 @@ use Rattle.command_measure.specs.declared.Measured.{Measured}
 use Rattle.command_writer.specs.Private.{has_room, answer_measured}
 use Rattle.command_measure.proofs.Making.{measured_parts, time_aligned, insert_aligned, private_fields}
 use Rattle.command_measure.proofs.Ties.{time_fields_lem, insert_fields_lem}
+use Rattle.std.proofs.Common.{Ok, Err, Result}
 
 pub record Payload (m : Made) (p : List ℕ) : Type 0 where
   pub bytes : bytes_in m ≡ bytes_of p
@@ -175,35 +175,35 @@ module _ (m : Made) (t : List ℕ) where
       go (refused zero) h = let e = h refl in zero_one cc
       go (refused (suc n)) h = rw (ne_eqb (suc n) 0 (λ e. omega (arith, e)))
 
-  pub wrote_there : (k : ℕ) → answer_of m t ≡ Written.Wrote k → (refusal_in m ≡ 0) × (length (bytes_in m) ≤ length t) × (stored t 0 (bytes_in m) ≡ later_of m t)
+  pub wrote_there : (k : ℕ) → answer_of m t ≡ Ok k → (refusal_in m ≡ 0) × (length (bytes_in m) ≤ length t) × (stored t 0 (bytes_in m) ≡ later_of m t)
   unfolding answer_of
   wrote_there k e = go m refl e
     where
-      fits : (b : List ℕ) (f : Bool) → leb (length b) (length t) ≡ f → pick f (Written.Wrote (length b)) (Written.Refused 36) ≡ Written.Wrote k → length b ≤ length t
+      fits : (b : List ℕ) (f : Bool) → leb (length b) (length t) ≡ f → pick {A = Result ℕ ℕ} f (Ok (length b)) (Err 36) ≡ Ok k → length b ≤ length t
       fits b true h e = leb-true _ _ h
       fits b false h e = zero_one cc
 
-      go : (x : Made) → m ≡ x → answer_of x t ≡ Written.Wrote k → (refusal_in m ≡ 0) × (length (bytes_in m) ≤ length t) × (stored t 0 (bytes_in m) ≡ later_of m t)
+      go : (x : Made) → m ≡ x → answer_of x t ≡ Ok k → (refusal_in m ≡ 0) × (length (bytes_in m) ≤ length t) × (stored t 0 (bytes_in m) ≡ later_of m t)
       go (made b) is e =
           let p = refusal_made m b is in
           let l = fits b (leb (length b) (length t)) refl e in
           (p.0, rw p.1 l, rw p.1 (wrote_answer m t b is l).1)
       go (refused n) is e = zero_one cc
 
-  pub refused_later : (k : ℕ) → answer_of m t ≡ Written.Refused k → t ≡ later_of m t
+  pub refused_later : (k : ℕ) → answer_of m t ≡ Err k → t ≡ later_of m t
   unfolding answer_of
   refused_later k e = go m refl e
     where
-      short : (b : List ℕ) (f : Bool) → leb (length b) (length t) ≡ f → pick f (Written.Wrote (length b)) (Written.Refused 36) ≡ Written.Refused k → length t < length b
+      short : (b : List ℕ) (f : Bool) → leb (length b) (length t) ≡ f → pick f (Ok (length b)) (Err 36) ≡ Err k → length t < length b
       short b true h e = zero_one cc
       short b false h e = leb-false _ _ h
 
-      go : (x : Made) → m ≡ x → answer_of x t ≡ Written.Refused k → t ≡ later_of m t
+      go : (x : Made) → m ≡ x → answer_of x t ≡ Err k → t ≡ later_of m t
       go (made b) is e = (short_answer m t b is (short b (leb (length b) (length t)) refl e)).1
       go (refused n) is e = (refused_answer m t n is).1
 
 -- what is said of one is said of the other
-pub other_made : (m n : Made) (t u : List ℕ) (r : Written) → m ≡ n → (r ≡ answer_of m t) × (u ≡ later_of m t) → (r ≡ answer_of n t) × (u ≡ later_of n t)
+pub other_made : (m n : Made) (t u : List ℕ) (r : Result ℕ ℕ) → m ≡ n → (r ≡ answer_of m t) × (u ≡ later_of m t) → (r ≡ answer_of n t) × (u ≡ later_of n t)
 other_made m n t u r e h = rw (← e) h
 
 -- a command that is not refused is made

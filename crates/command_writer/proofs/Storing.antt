@@ -9,7 +9,6 @@ use lib.ListN.{length, take, get_or, length-append}
 use lib.Seq.{take-suc}
 use Rattle.command.specs.Insert.{immediate, count, out_of_network}
 use Rattle.command.specs.declared.components.InsertComponent.{InsertComponent}
-use Rattle.splice_time.specs.declared.break_duration.Break.{Break}
 use Rattle.command.specs.declared.insert.InsertDetail.{InsertDetail}
 use Rattle.command.specs.declared.insert.SpliceInsert.{SpliceInsert}
 use Rattle.splice_time.specs.declared.break_duration.SpliceDuration.{SpliceDuration}
@@ -35,6 +34,7 @@ use Rattle.table.proofs.Steppings.{Settled, settled_at}
 use Rattle.table.proofs.Walks.{print_bits}
 use Rattle.command_measure.specs.Fields.{ink, time_fields, component_fields, list_fields, mode_fields, automatic, break_fields, tail_fields, flag_fields, immediate_in, places_of, active_fields, insert_fields}
 use Rattle.command_measure.specs.Made.{counted}
+use Rattle.std.proofs.Common.{Some, None, Option}
 
 module _ (t : List ℕ) (c : Cursor) (u : List ℕ) (d : Cursor) where
   -- one number, and what stands behind it
@@ -94,14 +94,14 @@ module _ (t : List ℕ) (c : Cursor) (u : List ℕ) (d : Cursor) where
       snoc (y ∷ l) x = ap (λ (fs : List Field). component_fields b y ++ fs) (snoc l x) ∙ sym (assoc (component_fields b y) (list_fields b l) (component_fields b x))
 
   -- ---- a duration, if there is one
-  pub break_none : (x : Break) (fs : List Field) → x ≡ Break.Absent → Pens t c (ink fs) u d → Pens t c (ink (break_fields x ++ fs)) u d
+  pub break_none : (x : Option SpliceDuration) (fs : List Field) → x ≡ None → Pens t c (ink fs) u d → Pens t c (ink (break_fields x ++ fs)) u d
   break_none x fs e p = rw e p
 
-  pub break_goes : (x : Break) (k : SpliceDuration) (fs : List Field) → x ≡ Break.Lasts k → Fits t c (ink (break_fields x ++ fs)) → Pens t c (ink (break_fields (Break.Lasts k))) u d
+  pub break_goes : (x : Option SpliceDuration) (k : SpliceDuration) (fs : List Field) → x ≡ Some k → Fits t c (ink (break_fields x ++ fs)) → Pens t c (ink (break_fields (Some k))) u d
       → Goes t c (ink (break_fields x ++ fs)) u d (ink fs)
   break_goes x k fs e h p =
-      let f : Fits t c (ink (break_fields (Break.Lasts k) ++ fs)) = rw e at h in
-      rw e (pens_fields (break_fields (Break.Lasts k)) fs f p)
+      let f : Fits t c (ink (break_fields (Some k) ++ fs)) = rw e at h in
+      rw e (pens_fields (break_fields (Some k)) fs f p)
 
   -- what follows, said otherwise
   pub goes_same : (all : List ℕ) (fs gs : List Field) → fs ≡ gs → Goes t c all u d (ink fs) → Goes t c all u d (ink gs)
@@ -138,7 +138,7 @@ flags_bits a b c d y e =
     ∙ ap (λ (n : ℕ). ink (bits 8 n ∷ [])) z
 
 pub break_bits : (k : SpliceDuration) (y : ℕ) → y ≡ flag_number (automatic k.return_mode) * 0x8000000000 + 0x7E00000000 + k.duration % 0x200000000
-    → ink (break_fields (Break.Lasts k)) ≡ ink (bits 40 y ∷ [])
+    → ink (break_fields (Some k)) ≡ ink (bits 40 y ∷ [])
 break_bits k y e =
     let x = flag_number (automatic k.return_mode) in
     let z : (x * 64 + 63) * 0x200000000 + k.duration % 0x200000000 ≡ y = omega (arith, e) in
@@ -167,10 +167,10 @@ fits_front t c fs gs h = omega (arith, length-append (ink fs) (ink gs), ap lengt
 pub fits_same : (t : List ℕ) (c : Cursor) (fs gs : List Field) → fs ≡ gs → Fits t c (ink fs) → Fits t c (ink gs)
 fits_same t c fs gs e h = rw (← e) h
 
-pub break_fits : (t : List ℕ) (c : Cursor) (x : Break) (k : SpliceDuration) (fs : List Field) → x ≡ Break.Lasts k → Fits t c (ink (break_fields x ++ fs)) → Fits t c (ink (break_fields (Break.Lasts k)))
-break_fits t c x k fs e h = fits_front t c (break_fields (Break.Lasts k)) fs (rw e at h)
+pub break_fits : (t : List ℕ) (c : Cursor) (x : Option SpliceDuration) (k : SpliceDuration) (fs : List Field) → x ≡ Some k → Fits t c (ink (break_fields x ++ fs)) → Fits t c (ink (break_fields (Some k)))
+break_fits t c x k fs e h = fits_front t c (break_fields (Some k)) fs (rw e at h)
 
-pub tail_fits : (t : List ℕ) (c : Cursor) (x : Break) (fs : List Field) → x ≡ Break.Absent → Fits t c (ink (break_fields x ++ fs)) → Fits t c (ink fs)
+pub tail_fits : (t : List ℕ) (c : Cursor) (x : Option SpliceDuration) (fs : List Field) → x ≡ None → Fits t c (ink (break_fields x ++ fs)) → Fits t c (ink fs)
 tail_fits t c x fs e h = rw e at h
 
 -- there is room for fewer components

@@ -7,7 +7,6 @@ use lib.ListN.{length}
 use Rattle.command.specs.Command.{private, read, command_of}
 use Rattle.command.specs.Writable.{writable_insert}
 use Rattle.command.specs.Insert.{WithComponents, insert}
-use Rattle.command.specs.declared.CommandRead.{CommandRead}
 use Rattle.command.specs.declared.Private.{Private}
 use Rattle.command.specs.declared.SpliceCommand.{SpliceCommand}
 use Rattle.command.specs.declared.components.InsertComponent.{InsertComponent}
@@ -24,20 +23,21 @@ use Rattle.table.specs.Writing.{made, refused, Same, make}
 use Rattle.table.proofs.Lists.{zero_one, append_nil}
 use Rattle.command_measure.specs.Made.{counted, times_fit, insert_made, command_made}
 use Rattle.command_measure.proofs.Making.{time_made, insert_made_of}
+use Rattle.std.proofs.Common.{Ok}
 
 -- ---- written, then read
 -- null and bandwidth reservation are written as nothing, which reads as them
-pub null_command_write_read : (places : List InsertComponent) (lent : List ℕ) → (command_made SpliceCommand.SpliceNull places lent ≡ made []) × (command_of 0x00 [] ≡ CommandRead.Is SpliceCommand.SpliceNull)
+pub null_command_write_read : (places : List InsertComponent) (lent : List ℕ) → (command_made SpliceCommand.SpliceNull places lent ≡ made []) × (command_of 0x00 [] ≡ Ok SpliceCommand.SpliceNull)
 unfolding command_made command_of
 null_command_write_read places lent = (refl, refl)
 
 pub bandwidth_command_write_read : (places : List InsertComponent) (lent : List ℕ)
-    → (command_made SpliceCommand.BandwidthReservation places lent ≡ made []) × (command_of 0x07 [] ≡ CommandRead.Is SpliceCommand.BandwidthReservation)
+    → (command_made SpliceCommand.BandwidthReservation places lent ≡ made []) × (command_of 0x07 [] ≡ Ok SpliceCommand.BandwidthReservation)
 unfolding command_made command_of
 bandwidth_command_write_read places lent = (refl, refl)
 
 pub time_command_write_read : (t : SpliceTime) (places : List InsertComponent) (lent b : List ℕ) → command_made (SpliceCommand.TimeSignal t) places lent ≡ made b
-    → command_of 0x06 b ≡ CommandRead.Is (SpliceCommand.TimeSignal t)
+    → command_of 0x06 b ≡ Ok (SpliceCommand.TimeSignal t)
 unfolding command_made command_of
 time_command_write_read t places lent b e =
     let i = time_write_read [] t b [] e in
@@ -45,7 +45,7 @@ time_command_write_read t places lent b e =
 
 -- its view is then of the payload, and holds the same bytes
 pub private_command_write_read : (p : Private) (places : List InsertComponent) (lent b : List ℕ) → AllBytes lent → command_made (SpliceCommand.PrivateCommand p) places lent ≡ made b
-    → (command_of 0xff b ≡ CommandRead.Is (SpliceCommand.PrivateCommand (moved p))) × Same private b (moved p) lent p
+    → (command_of 0xff b ≡ Ok (SpliceCommand.PrivateCommand (moved p))) × Same private b (moved p) lent p
 unfolding command_made command_of
 private_command_write_read p places lent b a e =
     let i = private_write_read lent p b [] e refl in
@@ -62,7 +62,7 @@ insert_made_lem x b e = go (times_fit x.components) refl e
 
 -- it reads as that insert, with its components, as many as there are places for
 pub insert_command_write_read : (i : SpliceInsert) (places : List InsertComponent) (lent b : List ℕ) → Counted (counted i places) → command_made (SpliceCommand.SpliceInsert i) places lent ≡ made b
-    → (command_of 0x05 b ≡ CommandRead.Is (SpliceCommand.SpliceInsert i)) × (parse insert (bits_of b) 0 ≡ got (counted i places) (length b * 8))
+    → (command_of 0x05 b ≡ Ok (SpliceCommand.SpliceInsert i)) × (parse insert (bits_of b) 0 ≡ got (counted i places) (length b * 8))
 unfolding command_made command_of
 insert_command_write_read i places lent b h e =
     let w = insert_write_read [] (counted i places) b [] h (insert_made_lem (counted i places) b e).1 in

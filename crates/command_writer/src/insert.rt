@@ -1,9 +1,8 @@
 // Writing a splice_insert(), field by field as its table stands.
-ghost use Rattle.std.specs.Prelude.{◌+◌, ◌*◌, ◌%◌, ◌^◌, ◌<◌, ◌≤◌, take, [], ◌≡◌};
+ghost use Rattle.std.specs.Prelude.{◌+◌, ◌*◌, ◌%◌, ◌^◌, ◌<◌, ◌≤◌, take, [], ◌≡◌, Some};
 ghost use Rattle.command.specs.Insert.{by_program};
 ghost use Rattle.splice_time.specs.Break.{lasting};
 ghost use Rattle.command.specs.Command.{array};
-ghost use Rattle.splice_time.specs.declared.break_duration.Break.{Break};
 ghost use Rattle.command.specs.declared.insert.SpliceMode.{SpliceMode};
 ghost use Rattle.command_measure.specs.Fields.{ink, component_fields, list_fields, insert_flags, break_fields, tail_fields, end_fields, places_of, active_fields, insert_fields};
 ghost use Rattle.command_measure.specs.Made.{counted};
@@ -18,7 +17,7 @@ use command::components::{InsertComponent, MAX_COMPONENTS, blanks};
 use command::insert::{InsertDetail, SpliceDetail, SpliceInsert, SpliceMode};
 use command_measure::measure::{are_immediate, is_immediate};
 use splice_time::SpliceTime;
-use splice_time::break_duration::{Break, SpliceDuration};
+use splice_time::break_duration::SpliceDuration;
 use table::cursor::Cursor;
 use table::numbers::{flag_number, wide};
 
@@ -47,11 +46,8 @@ fn store_components(
     ensures { Pens out.old c (ink (list_fields at_once (take count components))) out.new result }
 {
     let mut next = c;
-    let mut i: usize = 0;
-    while i < count {
-        let component = components[i];
+    for &component in &components[..count] {
         next = store_component(out, next, component, at_once);
-        i += 1;
     }
     next
 }
@@ -65,12 +61,12 @@ fn is_program(mode: SpliceMode) -> bool
     }
 }
 
-fn lasts(duration: Break) -> bool
+fn lasts(duration: Option<SpliceDuration>) -> bool
     ensures { result ≡ lasting duration }
 {
     match duration {
-        Break::Absent => false,
-        Break::Lasts(_) => true,
+        None => false,
+        Some(_) => true,
     }
 }
 
@@ -82,7 +78,7 @@ fn store_flags(out: &mut [u8], c: Cursor, insert: InsertDetail, at_once: bool) -
     let indicator = insert.network_indicator;
     let mode = insert.splice_mode;
     let duration = insert.duration;
-    let first = wide(indicator.flag());
+    let first = wide(indicator.into());
     let second = flag_number(is_program(mode));
     let third = flag_number(lasts(duration));
     let fourth = flag_number(at_once);
@@ -96,12 +92,12 @@ fn store_flags(out: &mut [u8], c: Cursor, insert: InsertDetail, at_once: bool) -
 
 // A break_duration().
 fn store_break(out: &mut [u8], c: Cursor, d: SpliceDuration) -> Cursor
-    requires { Fits out.old c (ink (break_fields (Break.Lasts d))) }
-    ensures { Pens out.old c (ink (break_fields (Break.Lasts d))) out.new result }
+    requires { Fits out.old c (ink (break_fields (Some d))) }
+    ensures { Pens out.old c (ink (break_fields (Some d))) out.new result }
 {
     let mode = d.return_mode;
     let duration = d.duration;
-    let returns = wide(mode.flag());
+    let returns = wide(mode.into());
     put_bits(
         out,
         c,
@@ -129,14 +125,14 @@ fn store_end(out: &mut [u8], c: Cursor, insert: InsertDetail) -> Cursor
 {
     let duration = insert.duration;
     match duration {
-        Break::Absent => store_tail(
+        None => store_tail(
             out,
             c,
             insert.unique_program_id,
             insert.avail_num,
             insert.avails_expected,
         ),
-        Break::Lasts(d) => {
+        Some(d) => {
             let c = store_break(out, c, d);
             store_tail(
                 out,

@@ -14,7 +14,7 @@ ghost use Rattle.table.specs.Lent.{stored};
 
 use crate::insert::{store_insert, store_insert_without_components};
 use crate::time::store_time;
-use bit_stores::{Written, put_bits, put_run};
+use bit_stores::{put_bits, put_run};
 use command::components::{InsertComponent, MAX_COMPONENTS};
 use command::insert::SpliceInsert;
 use command::{Private, SpliceCommand};
@@ -82,18 +82,18 @@ pub fn put_without_components(out: &mut [u8], at: usize, command: SpliceCommand,
 }
 
 // What is answered where the target has `room` bytes.
-fn answer_measured(measured: Measured, room: usize) -> Written
+fn answer_measured(measured: Measured, room: usize) -> Result<usize, u8>
     ensures { result ≡ answer_measured measured room }
 {
     let refusal = measured.refusal;
     let size = measured.size;
     if 0 < refusal {
-        return Written::Refused(refusal);
+        return Err(refusal);
     }
     if room < size {
-        return Written::Refused(36);
+        return Err(36);
     }
-    Written::Wrote(size)
+    Ok(size)
 }
 
 // The payload from the target's first byte on, or a refusal: 31, 32, 33 or 36.
@@ -101,14 +101,14 @@ pub fn write_command_without_components(
     command: SpliceCommand,
     lent: &[u8],
     target: &mut [u8],
-) -> Written
+) -> Result<usize, u8>
     ensures answer { result ≡ answer_of (command_made command (array []) lent.now) target.old }
     ensures bytes { target.new ≡ later_of (command_made command (array []) lent.now) target.old }
 {
     let answer = answer_measured(measure_without_components(command, lent), target.len());
     match answer {
-        Written::Wrote(_) => store_without_components(target, 0, command, lent),
-        Written::Refused(_) => {}
+        Ok(_) => store_without_components(target, 0, command, lent),
+        Err(_) => {}
     }
     answer
 }
@@ -150,16 +150,16 @@ fn write_insert(
     i: SpliceInsert,
     components: [InsertComponent; MAX_COMPONENTS],
     target: &mut [u8],
-) -> Written
+) -> Result<usize, u8>
     ensures answer { result ≡ answer_of (insert_made (counted i components)) target.old }
     ensures bytes { target.new ≡ later_of (insert_made (counted i components)) target.old }
 {
     let answer = answer_measured(measure_insert(i, components), target.len());
     match answer {
-        Written::Wrote(_) => {
+        Ok(_) => {
             let _ = store_insert(target, Cursor { byte: 0, bit: 0 }, i, components);
         }
-        Written::Refused(_) => {}
+        Err(_) => {}
     }
     answer
 }
@@ -170,7 +170,7 @@ pub fn write_command(
     components: [InsertComponent; MAX_COMPONENTS],
     lent: &[u8],
     target: &mut [u8],
-) -> Written
+) -> Result<usize, u8>
     ensures answer { result ≡ answer_of (command_made command components lent.now) target.old }
     ensures bytes { target.new ≡ later_of (command_made command components lent.now) target.old }
 {

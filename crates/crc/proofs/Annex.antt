@@ -2,14 +2,15 @@
 -- The register has 32 delay elements z(0) .. z(31), each 1 at the start. The bit that comes in is added to the output of z(31); the result
 -- goes to the input of z(0) and to each of the other adders, which stand between some z(i) and z(i + 1). Sums are modulo 2.
 -- Nothing cites this: it is for a reader who holds Annex A beside `specs/Crc`.
-use mathlib.Core.Path.{◌≡◌, sym, ap, ap₂, ◌∙◌}
+use mathlib.Core.Path.{◌≡◌, refl, sym, ap, ap₂, ◌∙◌}
 use mathlib.Core.Bool.{Bool, true, false}
 use mathlib.Core.List.{List, [], ◌∷◌, ◌++◌}
 use Prim.Native.Nat.{ℕ, zero, suc, ◌+◌, ◌*◌, ◌/◌, ◌%◌, ◌^◌, ◌-◌, ◌<◌}
 use native.Mathlib.Nat.{zero-mul, one-mul, mul-zero, mul-one, mod-lt}
 use native.Mathlib.Numerals.{one-add}
 use native.Mathlib.Omega.{arith}
-use lib.Dec.{lit<, eqb, eqb→eq}
+use lib.Dec.{lit<, eqb}
+use Rattle.std.proofs.lemmas.Bool.{eqb-true}
 use lib.Pow.{shr-shr, shl-shr, field, mod-mod-pow}
 use lib.Bits.{bit_xor, xor_shr, xor_mod, xor_zero_r, xor_lt}
 use Rattle.crc.specs.Crc.{polynomial, all_ones, fed, crc_bit, crc_bits, crc_of}
@@ -71,7 +72,7 @@ digit false = 0
 
 adder_is : (i : ℕ) → i < 31 → element polynomial (suc i) ≡ digit (among i adders)
 adder_is i h =
-    eqb→eq (element polynomial (suc i)) (digit (among i adders)) (below (λ k. eqb (element polynomial (suc k)) (digit (among k adders))) 31 tt i h)
+    eqb-true (element polynomial (suc i)) (digit (among i adders)) (below (λ k. eqb (element polynomial (suc k)) (digit (among k adders))) 31 refl i h)
 
 digit_through : (b : Bool) (f z : ℕ) → bit_xor z (digit b * f) ≡ through b f z
 digit_through true f z = ap (bit_xor z) (one-mul f)
@@ -136,7 +137,7 @@ run_has [] r z a h hz = h
 run_has (x ∷ xs) r z a h hz = run_has xs (step r x) (crc_bit z x) a.1 (step_has r z x h hz a.0) (bit_lt z x)
 
 all_ones_lem : Has initial all_ones
-all_ones_lem i h = eqb→eq (element all_ones i) 1 (below (λ k. eqb (element all_ones k) 1) 32 tt i h)
+all_ones_lem i h = eqb-true (element all_ones i) 1 (below (λ k. eqb (element all_ones k) 1) 32 refl i h)
 
 -- the definition is the annex's register
 pub annex : (message : List ℕ) (i : ℕ) → i < 32 → element (crc_of message) i ≡ run initial (bits_of message) i

@@ -5,20 +5,19 @@
 use mathlib.Core.Path.{◌≡◌, refl, sym, ap, ap₂, ◌∙◌, subst}
 use mathlib.Core.List.{List, [], ◌∷◌, ◌++◌}
 use Prim.Native.Nat.{ℕ, zero, suc, ◌+◌, ◌*◌, ◌/◌, ◌%◌, ◌^◌, ◌-◌, ◌<◌, ◌≤◌}
-use native.Mathlib.Nat.{add-zero, add-suc, add_assoc, add-mul, mul-suc, mul-one, mul_assoc, mod-lt, mod-one, mod-eq_of_lt, lt_of_lt_of_le}
+use native.Mathlib.Nat.{mod-lt, mod-one, mod-eq_of_lt, lt_of_lt_of_le}
 use native.Mathlib.Numerals.{one-add, add-one, unary_clauses}
 use native.Mathlib.Omega.{arith}
-use lib.Arith.{digits_lt}
 use lib.Dec.{lit<}
 use lib.ListN.{length, get_or, drop, drop_of_length-le}
 use lib.Seq.{drop-cons}
-use lib.Pow.{pow_pos, pow-add, pow_mono, shl-shr, mod-pow-add, high}
-use lib.Bits.{bit_xor, xor_shr, xor_mod, xor_zero_r, xor_lt}
+use lib.Pow.{pow_pos, pow_mono, shl-shr, mod-pow-add}
+use lib.Bits.{bit_xor, xor_assoc, xor_shr, xor_mod, xor_zero_r, xor_lt}
 use Rattle.crc.specs.Crc.{polynomial, fed, crc_bit, crc_bits, crc_of, all_ones}
 use Rattle.table.specs.Bits.{bits_of, bits_of_num}
 use Rattle.crc_table.specs.Turns.{turn, turns}
-use Rattle.crc.specs.Private.{crc_bytes, number_at}
-use Rattle.crc.proofs.Xor.{xor_assoc, xor_shl}
+use Rattle.crc.specs.Private.{crc_bytes}
+use Rattle.crc.proofs.Xor.{xor_shl}
 use Rattle.crc.proofs.Turns.{turn_lin, turns_lin, turns_add, turn_lt, turns_lt, turned_lt, behind}
 
 -- ---- bits
@@ -112,6 +111,25 @@ byte_in z b bs hz hb =
     byte_step z b bs
     ∙ ap (λ (k : ℕ). crc_bytes k bs) (bits_in_lem 8 b z (omega arith) hz ∙ ap (λ (k : ℕ). bit_xor (turns 8 z) (turns 32 k)) (mod-eq_of_lt hb))
 
+-- four bytes: the number that they make comes in at once
+abbrev pub four : ℕ → ℕ → ℕ → ℕ → ℕ
+four a b c d = ((a * 256 + b) * 256 + c) * 256 + d
+
+pub four_in : (z a b c d : ℕ) → z < 2 ^ 32 → a < 256 → b < 256 → c < 256 → d < 256 → crc_bytes z (a ∷ b ∷ c ∷ d ∷ []) ≡ turns 32 (bit_xor z (four a b c d))
+unfolding crc_bytes crc_bits
+four_in z a b c d hz ha hb hc hd =
+    let one : ℕ = bit_xor (turns 8 z) (turns 32 a) in
+    let two : ℕ = bit_xor (turns 16 z) (turns 32 (a * 256 + b)) in
+    let three : ℕ = bit_xor (turns 24 z) (turns 32 ((a * 256 + b) * 256 + c)) in
+    byte_in z a (b ∷ c ∷ d ∷ []) hz ha
+    ∙ byte_in one b (c ∷ d ∷ []) (in_lt (turns 8 z) a (turns_lt 8 z hz)) hb
+    ∙ ap (λ (k : ℕ). crc_bytes k (c ∷ d ∷ [])) (then 8 8 z a b hb (omega arith))
+    ∙ byte_in two c (d ∷ []) (in_lt (turns 16 z) (a * 256 + b) (turns_lt 16 z hz)) hc
+    ∙ ap (λ (k : ℕ). crc_bytes k (d ∷ [])) (then 16 8 z (a * 256 + b) c hc (omega arith))
+    ∙ byte_in three d [] (in_lt (turns 24 z) ((a * 256 + b) * 256 + c) (turns_lt 24 z hz)) hd
+    ∙ then 24 8 z ((a * 256 + b) * 256 + c) d hd (omega arith)
+    ∙ sym ((turns_lin 32).at z (four a b c d))
+
 -- ---- a message from a place on
 
 pub past_none : (s : List ℕ) → crc_bytes all_ones s ≡ crc_of s
@@ -124,58 +142,3 @@ past_one s z i h = rw (add-one, drop-cons s i 0) (byte_step z (get_or s i 0) (dr
 pub past_all : (s : List ℕ) (z i : ℕ) → length s ≤ i → crc_bytes z (drop i s) ≡ z
 unfolding crc_bytes crc_bits
 past_all s z i h = rw (drop_of_length-le s)
-
--- ---- the number that bytes make
-
-pub number_next : (s : List ℕ) (at n : ℕ) → number_at s at (n + 1) ≡ number_at s at n * 256 + get_or s (at + n) 0
-unfolding number_at
-number_next s at n = rw add-one
-
-pub number_add : (s : List ℕ) (at m n : ℕ) → number_at s at (m + n) ≡ number_at s at m * 2 ^ (8 * n) + number_at s (at + m) n
-unfolding number_at
-number_add s at m zero = ap (number_at s at) (add-zero m) ∙ sym (add-zero (number_at s at m * 1) ∙ mul-one (number_at s at m))
-number_add s at m (suc n) =
-    let x : ℕ = number_at s at m in
-    let y : ℕ = number_at s (at + m) n in
-    let b : ℕ = get_or s (at + m + n) 0 in
-    let p : x * 2 ^ (8 * suc n) ≡ x * 2 ^ (8 * n) * 256 =
-    ap (λ (k : ℕ). x * 2 ^ k) (mul-suc 8 n) ∙ ap (λ (k : ℕ). x * k) (pow-add 2 (8 * n) 8) ∙ sym (mul_assoc x (2 ^ (8 * n)) 256)
-    in
-    ap (number_at s at) (add-suc m n)
-    ∙ ap₂ (λ (k i : ℕ). k * 256 + get_or s i 0) (number_add s at m n) (sym (add_assoc at m n))
-    ∙ ap (λ (k : ℕ). k + b) (add-mul (x * 2 ^ (8 * n)) y 256)
-    ∙ add_assoc (x * 2 ^ (8 * n) * 256) (y * 256) b
-    ∙ ap (λ (k : ℕ). k + (y * 256 + b)) (sym p)
-
-module _ (s : List ℕ) (bytes : (k : ℕ) → get_or s k 0 < 256) where
-  number_lt : (at n : ℕ) → number_at s at n < 2 ^ (8 * n)
-  unfolding number_at
-  number_lt at zero = lit< tt
-  number_lt at (suc n) =
-      subst (λ (k : ℕ). number_at s at n * 256 + get_or s (at + n) 0 < k) (sym (pow-add 2 (8 * n) 8) ∙ ap (λ (k : ℕ). 2 ^ k) (sym (mul-suc 8 n)))
-      (digits_lt (number_lt at n) (bytes (at + n)))
-
-module _ (s : List ℕ) (bytes : (k : ℕ) → get_or s k 0 < 256) (at : ℕ) where
-  pub number_fits : (n m : ℕ) → n ≤ m → number_at s at n < 2 ^ (8 * m)
-  number_fits n m h = lt_of_lt_of_le (number_lt s bytes at n) (pow_mono {j = 8 * m} (omega arith))
-
-  -- of n + m bytes the n first are the highest: a shift leaves them
-  pub number_first : (n m : ℕ) → number_at s at (n + m) / 2 ^ (8 * m) ≡ number_at s at n
-  number_first n m = ap (λ (k : ℕ). k / 2 ^ (8 * m)) (number_add s at n m) ∙ high (number_at s at n) (8 * m) (number_lt s bytes (at + n) m)
-
-  pub pass : (n z : ℕ) → n ≤ 4 → at + n ≤ length s → z < 2 ^ 32
-      → crc_bytes z (drop at s) ≡ crc_bytes (bit_xor (turns (8 * n) z) (turns 32 (number_at s at n))) (drop (at + n) s)
-  unfolding number_at turns
-  pass zero z h l hz = ap₂ (λ (k i : ℕ). crc_bytes k (drop i s)) (sym (in_none z)) (sym (add-zero at))
-  pass (suc n) z h l hz =
-      let x : ℕ = number_at s at n in
-      let y : ℕ = get_or s (at + n) 0 in
-      let w : ℕ = bit_xor (turns (8 * n) z) (turns 32 x) in
-      let hw : w < 2 ^ 32 = in_lt (turns (8 * n) z) x (turns_lt (8 * n) z hz) in
-      let f : x * 2 ^ 8 + y < 2 ^ 32 = number_fits (suc n) 4 h in
-      pass n z (omega arith) (omega arith) hz
-      ∙ ap (crc_bytes w) (drop-cons s (at + n) 0 (omega arith))
-      ∙ byte_in w y (drop (suc (at + n)) s) hw (bytes (at + n))
-      ∙ ap₂ (λ (k i : ℕ). crc_bytes k (drop i s))
-      (then (8 * n) 8 z x y (bytes (at + n)) f ∙ ap (λ (k : ℕ). bit_xor (turns k z) (turns 32 (x * 256 + y))) (sym (mul-suc 8 n)))
-      (sym (add-suc at n))

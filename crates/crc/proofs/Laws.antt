@@ -17,9 +17,9 @@ use lib.Bits.{bit_xor, xor_self, xor_lt}
 use Rattle.crc.specs.Crc.{polynomial, all_ones, fed, crc_bit, crc_bits, crc_of, crc_bytes_of}
 use Rattle.table.specs.Bits.{bits_of}
 use Rattle.crc_table.specs.Turns.{turn, turns}
-use Rattle.crc.specs.Private.{crc_bytes, number_at}
-use Rattle.crc.proofs.Bytes.{past_none, bytes_append, pass}
-use Rattle.crc.proofs.Turns.{turn_lt, turns_lin}
+use Rattle.crc.specs.Private.{crc_bytes}
+use Rattle.crc.proofs.Bytes.{four, four_in, past_none, bytes_append}
+use Rattle.crc.proofs.Turns.{turn_lt}
 use Rattle.crc.proofs.Xor.{xor_zero→eq}
 
 -- ---- the register stays below 2 ^ 32, whatever comes in
@@ -43,10 +43,6 @@ crc_lt m = bits_lt all_ones (bits_of m) (lit< tt)
 
 -- ---- four bytes behind a message
 
--- the number that they make
-abbrev four : ℕ → ℕ → ℕ → ℕ → ℕ
-four a b c d = ((a * 256 + b) * 256 + c) * 256 + d
-
 four_are_bytes : (a b c d : ℕ) → a < 256 → b < 256 → c < 256 → d < 256 → (k : ℕ) → get_or (a ∷ b ∷ c ∷ d ∷ []) k 0 < 256
 four_are_bytes a b c d ha hb hc hd zero = ha
 four_are_bytes a b c d ha hb hc hd (suc zero) = hb
@@ -56,15 +52,10 @@ four_are_bytes a b c d ha hb hc hd (suc (suc (suc (suc k)))) = lit< tt
 
 four_behind : (m : List ℕ) (a b c d : ℕ) → a < 256 → b < 256 → c < 256 → d < 256
     → crc_of (m ++ a ∷ b ∷ c ∷ d ∷ []) ≡ turns 32 (bit_xor (crc_of m) (four a b c d))
-unfolding crc_bytes crc_bits number_at
 four_behind m a b c d ha hb hc hd =
     let x : List ℕ = a ∷ b ∷ c ∷ d ∷ [] in
-    let z : ℕ = crc_of m in
-    let n : number_at x 0 4 ≡ four a b c d = omega arith in
     sym (past_none (m ++ x)) ∙ bytes_append all_ones m x ∙ ap (λ (k : ℕ). crc_bytes k x) (past_none m)
-    ∙ pass x (four_are_bytes a b c d ha hb hc hd) 0 4 z (omega arith) (omega arith) (crc_lt m)
-    ∙ ap (λ (k : ℕ). bit_xor (turns 32 z) (turns 32 k)) n
-    ∙ sym ((turns_lin 32).at z (four a b c d))
+    ∙ four_in (crc_of m) a b c d (crc_lt m) ha hb hc hd
 
 -- a number of 32 bits is that of its four bytes
 four_bytes : (c : ℕ) → c < 2 ^ 32 → four (c / 2 ^ 24 % 256) (c / 2 ^ 16 % 256) (c / 2 ^ 8 % 256) (c / 2 ^ 0 % 256) ≡ c

@@ -4,4 +4,5 @@ pub mod Laws
 pub mod Linear
 pub mod Turns
 pub mod Vectors
+pub mod Words
 pub mod Xor

@@ -2,14 +2,15 @@
 --     Linear f        f of a xor is the xor of f's
 --     agree           two linear maps that agree on 2 ^ i for each i below k agree below 2 ^ k
 use mathlib.Core.Path.{◌≡◌, refl, sym, ap, ap₂, ◌∙◌, subst}
-use mathlib.Core.Bool.{Bool, true, false}
-use mathlib.Core.Logic.{⊎_elim}
+use mathlib.Core.Bool.{Bool, true, ◌&&◌}
+use Rattle.std.proofs.Common.{inl, inr}
 use Prim.Native.Nat.{ℕ, zero, suc, ◌*◌, ◌/◌, ◌%◌, ◌^◌, ◌<◌}
-use native.Mathlib.Nat.{mod-lt, lt-suc_self, one-mul, zero-mul, le_of_suc-le-suc, not-suc-le-zero, eq-or-lt_of_le}
+use native.Mathlib.Nat.{mod-lt, lt-suc_self, one-mul, zero-mul}
 use native.Mathlib.Numerals.{one-add}
 use native.Mathlib.Omega.{arith}
 use lib.Arith.{lt-one}
-use lib.Dec.{T, eqb, eqb→eq}
+use lib.Dec.{eqb}
+use Rattle.std.proofs.lemmas.Bool.{and_parts, cases_eq, eqb-true}
 use lib.Pow.{pow_pos, split, shr_lt}
 use lib.Bits.{bit_xor, xor_shr, xor_mod, xor_shifted}
 use Rattle.crc.proofs.Xor.{xor_shl, xor_swap}
@@ -43,28 +44,15 @@ shl_lin w p k = mod_lin (times_lin p k) w
 
 -- ---- a test that passes at every number below n
 
-abbrev both : Bool → Bool → Bool
-both true b = b
-both false b = false
-
-both_left : (a b : Bool) → T (both a b) → T a
-both_left true b t = tt
-both_left false b t = t
-
-both_right : (a b : Bool) → T (both a b) → T b
-both_right true b t = t
-both_right false b t = absurd t
-
 abbrev pub all_below : (ℕ → Bool) → ℕ → Bool
 all_below f zero = true
-all_below f (suc n) = both (f n) (all_below f n)
+all_below f (suc n) = f n && all_below f n
 
-pub below : (f : ℕ → Bool) (n : ℕ) → T (all_below f n) → (k : ℕ) → k < n → T (f k)
-below f zero t k h = absurd (not-suc-le-zero h)
+pub below : (f : ℕ → Bool) (n : ℕ) → all_below f n ≡ true → (k : ℕ) → k < n → f k ≡ true
+below f zero t k h = absurd (omega arith)
 below f (suc n) t k h =
-    ⊎_elim (λ e. subst (λ (m : ℕ). T (f m)) (sym e) (both_left (f n) (all_below f n) t))
-    (λ l. below f n (both_right (f n) (all_below f n) t) k l)
-    (eq-or-lt_of_le (le_of_suc-le-suc h))
+    let parts = and_parts (f n) (all_below f n) t in
+    elim (cases_eq k n) [ inl e ↦ rw e parts.0 | inr e ↦ below f n parts.1 k (omega arith) ]
 
 -- ---- linear maps that agree on the powers of 2
 
@@ -89,5 +77,5 @@ module _ (f g : ℕ → ℕ) (p : Linear f) (q : Linear g) (z : f 0 ≡ g 0) whe
   abbrev pub test : ℕ → Bool
   test i = eqb (f (2 ^ i)) (g (2 ^ i))
 
-  pub agree : (k : ℕ) → T (all_below test k) → (x : ℕ) → x < 2 ^ k → f x ≡ g x
-  agree k t = from k (λ i h. eqb→eq (f (2 ^ i)) (g (2 ^ i)) (below test k t i h))
+  pub agree : (k : ℕ) → all_below test k ≡ true → (x : ℕ) → x < 2 ^ k → f x ≡ g x
+  agree k t = from k (λ i h. eqb-true (f (2 ^ i)) (g (2 ^ i)) (below test k t i h))

@@ -105,4 +105,4 @@ behind n x y h l =
 
 pub reversed_twice : (x : ℕ) → x < 2 ^ 32 → reversed (reversed x) ≡ x
 unfolding reversed
-reversed_twice = agree (λ x. reversed (reversed x)) (λ x. x) (after_lin reversed_lin reversed_lin) same_lin refl 32 tt
+reversed_twice = agree (λ x. reversed (reversed x)) (λ x. x) (after_lin reversed_lin reversed_lin) same_lin refl 32 refl

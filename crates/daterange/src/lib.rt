@@ -5,13 +5,12 @@ ghost use Rattle.std.specs.Prelude.{◌≡◌};
 ghost use Rattle.daterange.specs.Choice.{leaving, inserted, cue_for, daterange_made};
 ghost use Rattle.bit_stores.specs.Written.{answer_of, later_of};
 
-use bit_stores::Written;
 use command::SpliceCommand;
 use command::insert::SpliceDetail;
 use daterange_line::Cue;
 use daterange_writer::write_line;
 use names::flags::NetworkIndicator;
-use section::{SectionRead, read_section};
+use section::read_section;
 
 fn leaving(n: NetworkIndicator) -> Cue
     ensures { result ≡ leaving n }
@@ -51,15 +50,20 @@ fn cue_for(c: SpliceCommand) -> Cue
 }
 
 // The line of a section, without a line end, from the target's first byte on; or a refusal: 1 to 11 for the section, 53, 36. A refused write changes no byte.
-pub fn write_daterange(section: &[u8], id: &[u8], date: &[u8], target: &mut [u8]) -> Written
+pub fn write_daterange(
+    section: &[u8],
+    id: &[u8],
+    date: &[u8],
+    target: &mut [u8],
+) -> Result<usize, u8>
     ensures answer { result ≡ answer_of (daterange_made section.now id.now date.now) target.old }
     ensures bytes { target.new ≡ later_of (daterange_made section.now id.now date.now) target.old }
 {
     match read_section(section) {
-        SectionRead::Is(s) => {
+        Ok(s) => {
             let command = s.command;
             return write_line(section, cue_for(command), id, date, target);
         }
-        SectionRead::Refused(r) => return Written::Refused(r.number()),
+        Err(r) => return Err(r.number()),
     }
 }

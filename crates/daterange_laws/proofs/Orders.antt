@@ -5,7 +5,6 @@
 use Prim.Native.Nat.{ℕ}
 use mathlib.Core.Bool.{Bool, true, false, not, ◌&&◌, ◌||◌, and-false}
 use mathlib.Core.List.{List, [], ◌∷◌, ◌++◌}
-use mathlib.Core.Option.{some}
 use mathlib.Core.Path.{◌≡◌, refl, ap, sym, ◌∙◌}
 use borrow.Author.Tests.{eq-eqb}
 use Rattle.table.specs.Bits.{pick}
@@ -21,6 +20,8 @@ use Rattle.daterange_line.specs.declared.Known.{Known}
 use Rattle.daterange_line.specs.declared.Known.TheVariants.{Id, Date, Signal, Other}
 use Rattle.attribute_list.proofs.Lists.{same_true, line_exact}
 use Rattle.daterange_line.proofs.Names.{same_comm}
+use Rattle.std.specs.Prelude.{Some}
+use Rattle.daterange_line.specs.declared.LineRefusal.TheVariants.{MalformedLine, AttributeMissing}
 
 -- ---- tests of the whole list
 
@@ -42,7 +43,6 @@ any_shuffled p (swap {a = a} {b = b} {l = l} e) = or_left (p a) (p b) (any p l)
 any_shuffled p (then s t) = any_shuffled p s ∙ any_shuffled p t
 
 all_shuffled : (p : Attribute → Bool) {l m : List Attribute} → Shuffled l m → all p l ≡ all p m
-unfolding all
 all_shuffled p same = refl
 all_shuffled p (first {a = a} s) = ap (λ (t : Bool). p a && t) (all_shuffled p s)
 all_shuffled p (swap {a = a} {b = b} {l = l} e) = and_left (p a) (p b) (all p l)
@@ -181,13 +181,13 @@ said_shuffled s r =
     let g = signal_shuffled s in
     rw (i, d, c, g)
 
-pub any_order : {l m : List Attribute} → Shuffled l m → heard_of (judge (some l)) ≡ heard_of (judge (some m))
+pub any_order : {l m : List Attribute} → Shuffled l m → heard_of (judge (Some l)) ≡ heard_of (judge (Some m))
 unfolding judge heard_of
 any_order {l} {m} s =
     rw (← repeats_shuffled s, ← all_shuffled fitting s, ← any_shuffled is_id s, ← any_shuffled is_date s, ← any_shuffled is_signal s)
     (go (repeats l) refl (all fitting l) (not (any is_id l && (any is_date l && any is_signal l))))
   where
-    go : (r : Bool) → repeats l ≡ r → (f k : Bool) → heard_of (pick (r || not f) (fault 52) (pick k (fault 51) (fine l))) ≡ heard_of (pick (r || not f) (fault 52) (pick k (fault 51) (fine m)))
+    go : (r : Bool) → repeats l ≡ r → (f k : Bool) → heard_of (pick (r || not f) (fault MalformedLine) (pick k (fault AttributeMissing) (fine l))) ≡ heard_of (pick (r || not f) (fault MalformedLine) (pick k (fault AttributeMissing) (fine m)))
     go true e f k = refl
     go false e false k = refl
     go false e true true = refl
@@ -197,17 +197,17 @@ to_front : (a : Attribute) → is_signal a ≡ false → (l m : List Attribute) 
 to_front a e [] m = same
 to_front a e (b ∷ l) m = let z : is_signal b && is_signal a ≡ false = rw e (and-false (is_signal b)) in then (first (to_front a e l m)) (swap z)
 
-front_passed : (a : Attribute) (l : List Attribute) → known_of a.name ≡ Other → named a.name l ≡ false → heard_of (judge (some (a ∷ l))) ≡ heard_of (judge (some l))
-unfolding judge heard_of repeats all any value_of cue_of
+front_passed : (a : Attribute) (l : List Attribute) → known_of a.name ≡ Other → named a.name l ≡ false → heard_of (judge (Some (a ∷ l))) ≡ heard_of (judge (Some l))
+unfolding judge heard_of repeats any value_of cue_of
 front_passed a l e n = rw (n, e) (go (repeats l || not (all fitting l)) (not (any is_id l && (any is_date l && any is_signal l))))
   where
-    go : (f k : Bool) → heard_of (pick f (fault 52) (pick k (fault 51) (fine (a ∷ l)))) ≡ heard_of (pick f (fault 52) (pick k (fault 51) (fine l)))
+    go : (f k : Bool) → heard_of (pick f (fault MalformedLine) (pick k (fault AttributeMissing) (fine (a ∷ l)))) ≡ heard_of (pick f (fault MalformedLine) (pick k (fault AttributeMissing) (fine l)))
     go true k = refl
     go false true = refl
     go false false = rw e
 
 pub unknown_passed : (a : Attribute) (l m : List Attribute) → known_of a.name ≡ Other → named a.name (l ++ m) ≡ false
-    → heard_of (judge (some (l ++ (a ∷ m)))) ≡ heard_of (judge (some (l ++ m)))
+    → heard_of (judge (Some (l ++ (a ∷ m)))) ≡ heard_of (judge (Some (l ++ m)))
 unknown_passed a l m e n = any_order (to_front a (ap as_signal e) l m) ∙ front_passed a (l ++ m) e n
 
 -- ---- the same of lines

@@ -10,7 +10,6 @@
 use Prim.Native.Nat.{ℕ, suc, ◌+◌, ◌*◌, ◌/◌, ◌%◌, ◌≤◌, ◌<◌}
 use mathlib.Core.Bool.{Bool, true, false, not, ◌&&◌, ◌||◌}
 use mathlib.Core.List.{List, [], ◌∷◌, ◌++◌}
-use mathlib.Core.Option.{Option, none, some}
 use mathlib.Core.Path.{◌≡◌, refl, ap, sym, ◌∙◌}
 use native.Mathlib.Omega.{arith}
 use lib.Dec.{eqb}
@@ -25,32 +24,33 @@ use Rattle.attribute_list.specs.Cutting.{same, attributes_of}
 use Rattle.daterange_line.specs.Reading.{cue_name, known_of, hexadecimal, fitting, is_id, is_date, is_signal, named, repeats, any, value_of, view_of, cue_of, digit_of, octets, section_of, fault, fine, judge, section_made, read_by, read_of, read_later}
 use Rattle.daterange_writer.specs.Writing.{hex_digit, hex_of, attributes_for, line_of}
 use Rattle.daterange_line.specs.declared.Cue.{Cue}
-use Rattle.daterange_line.specs.declared.Read.TheVariants.{Is}
 use Rattle.daterange_line.specs.declared.Cue.TheVariants.{Cmd, Out, In}
 use Rattle.attribute_list.proofs.Lists.{line_sound, line_exact}
 use Rattle.daterange_writer.proofs.Digits.{hex_length}
 use Rattle.daterange_line.proofs.Values.{stands_viewed, view_value, Fine, judged_fine}
 use Rattle.daterange_line.proofs.Answers.{text_behind}
+use Rattle.std.specs.Prelude.{Option, Some, None, Ok}
+use Rattle.daterange_line.specs.declared.LineRefusal.TheVariants.{MalformedLine, AttributeMissing}
 
 -- ---- the list of a line
 
-pub cut_exactly : (line : List ℕ) (l : List Attribute) → (attributes_of line ≡ some l → Line l line) × (Line l line → attributes_of line ≡ some l)
+pub cut_exactly : (line : List ℕ) (l : List Attribute) → (attributes_of line ≡ Some l → Line l line) × (Line l line → attributes_of line ≡ Some l)
 cut_exactly line l = (line_sound line l, line_exact line l)
 
 pub one_list : (line : List ℕ) (l m : List Attribute) → Line l line → Line m line → l ≡ m
 one_list line l m h g = let e = line_exact line l h in let f = line_exact line m g in cc
 
 -- a line without a list, or with a fault: 52; one without a fault that lacks something: 51; any other is read
-pub refused_none : (line : List ℕ) → ((l : List Attribute) → Line l line → ⊥) → judge (attributes_of line) ≡ fault 52
+pub refused_none : (line : List ℕ) → ((l : List Attribute) → Line l line → ⊥) → judge (attributes_of line) ≡ fault MalformedLine
 unfolding judge
 refused_none line h = go (attributes_of line) refl
   where
-    go : (o : Option (List Attribute)) → attributes_of line ≡ o → judge o ≡ fault 52
-    go none e = refl
-    go (some l) e = absurd (h l (line_sound line l e))
+    go : (o : Option (List Attribute)) → attributes_of line ≡ o → judge o ≡ fault MalformedLine
+    go None e = refl
+    go (Some l) e = absurd (h l (line_sound line l e))
 
 pub judged_by : (line : List ℕ) (l : List Attribute) → Line l line
-    → judge (attributes_of line) ≡ pick (repeats l || not (all fitting l)) (fault 52) (pick (not (any is_id l && (any is_date l && any is_signal l))) (fault 51) (fine l))
+    → judge (attributes_of line) ≡ pick (repeats l || not (all fitting l)) (fault MalformedLine) (pick (not (any is_id l && (any is_date l && any is_signal l))) (fault AttributeMissing) (fine l))
 unfolding judge
 judged_by line l h = rw (line_exact line l h)
 
@@ -79,7 +79,7 @@ octets_back [] h = refl
 octets_back (b ∷ s) h = rw (digits_back b h.0, octets_back s h.1)
 
 hex_all : (s : List ℕ) → AllBytes s → all hex_byte (hex_of s) ≡ true
-unfolding all hex_of hex_byte
+unfolding hex_of hex_byte
 hex_all [] h = refl
 hex_all (b ∷ s) h = rw (high, low, hex_all s h.1)
   where
@@ -90,7 +90,7 @@ hex_all (b ∷ s) h = rw (high, low, hex_all s h.1)
     low = below_all 256 (λ n. hex_byte (hex_digit (n % 16))) refl b h.0
 
 hex_plain : (s : List ℕ) → AllBytes s → all plain_byte (hex_of s) ≡ true
-unfolding all hex_of plain_byte
+unfolding hex_of plain_byte
 hex_plain [] h = refl
 hex_plain (b ∷ s) h = rw (high, low, hex_plain s h.1)
   where
@@ -102,7 +102,7 @@ hex_plain (b ∷ s) h = rw (high, low, hex_plain s h.1)
 
 module _ (section : List ℕ) (cue : Cue) (id date : List ℕ) (i : all quoted_byte id ≡ true) (d : all quoted_byte date ≡ true) (bytes : AllBytes section) where
   cue_valid : valid (record { name = cue_name cue; value = plain (0x30 ∷ (0x78 ∷ hex_of section)) }) ≡ true
-  unfolding valid all name_byte plain_byte
+  unfolding valid name_byte plain_byte
   cue_valid = go cue
     where
       go : (c : Cue) → valid (record { name = cue_name c; value = plain (0x30 ∷ (0x78 ∷ hex_of section)) }) ≡ true
@@ -111,7 +111,7 @@ module _ (section : List ℕ) (cue : Cue) (id date : List ℕ) (i : all quoted_b
       go In = rw (lt-ltb 0 (suc (suc (length (hex_of section)))) (omega arith), hex_plain section bytes)
 
   pub written_line : Line (attributes_for section cue id date) (line_of section cue id date)
-  unfolding line_of valid all name_byte
+  unfolding line_of valid name_byte
   written_line = record { some = omega arith; each = rw (i, d, cue_valid); text = refl }
 
   module _ (some_bytes : 0 < length section) where
@@ -131,7 +131,7 @@ module _ (section : List ℕ) (cue : Cue) (id date : List ℕ) (i : all quoted_b
       pub same_section : section_of (attributes_for section cue id date) ≡ section
 
     pub written_reads_back : Back
-    unfolding judge repeats named all any known_of same value_of cue_of
+    unfolding judge repeats named any known_of same value_of cue_of
     written_reads_back =
         record {
           fine_line = ap judge (line_exact (line_of section cue id date) (attributes_for section cue id date) written_line) ∙ judged cue;
@@ -141,7 +141,7 @@ module _ (section : List ℕ) (cue : Cue) (id date : List ℕ) (i : all quoted_b
           same_section = at_section cue ∙ octets_back section bytes;
         }
       where
-        judged : (c : Cue) → judge (some (attributes_for section c id date)) ≡ fine (attributes_for section c id date)
+        judged : (c : Cue) → judge (Some (attributes_for section c id date)) ≡ fine (attributes_for section c id date)
         judged Cmd = rw hexadecimal_is
         judged Out = rw hexadecimal_is
         judged In = rw hexadecimal_is
@@ -165,7 +165,7 @@ module _ (section : List ℕ) (cue : Cue) (id date : List ℕ) (i : all quoted_b
     -- the reader on the written line: the section stands in the target, and the two views are of the ID and the date
     pub written_then_read : (target : List ℕ) → length section ≤ length target
         → (read_of (line_of section cue id date) target
-        ≡ Is (record { id = view_of is_id 17 (attributes_for section cue id date); date = view_of is_date 17 (attributes_for section cue id date); cue = cue; len = length section }))
+        ≡ Ok (record { id = view_of is_id 17 (attributes_for section cue id date); date = view_of is_date 17 (attributes_for section cue id date); cue = cue; len = length section }))
         × (read_later (line_of section cue id date) target ≡ section ++ drop (length section) target)
         × (viewed (line_of section cue id date) (view_of is_id 17 (attributes_for section cue id date)) ≡ id)
         × (viewed (line_of section cue id date) (view_of is_date 17 (attributes_for section cue id date)) ≡ date)
@@ -181,18 +181,18 @@ module _ (section : List ℕ) (cue : Cue) (id date : List ℕ) (i : all quoted_b
 
 -- ---- 52 exactly
 
-not_51 : (l : List Attribute) (f m : Bool) → pick f (fault 52) (pick m (fault 51) (fine l)) ≡ fault 52 → f ≡ true
+not_51 : (l : List Attribute) (f m : Bool) → pick f (fault MalformedLine) (pick m (fault AttributeMissing) (fine l)) ≡ fault MalformedLine → f ≡ true
 not_51 l true m e = refl
 not_51 l false true e = let z : ◌≡◌ {A = ℕ} 51 52 = cc in absurd (omega arith)
 not_51 l false false e = zero_one cc
 
 -- a line is refused with 52 exactly where every list of it (there is at most one) has a repeated name, or a value of another kind than its name asks for
 pub refused_52 : (line : List ℕ)
-    → (judge (attributes_of line) ≡ fault 52 → (l : List Attribute) → Line l line → repeats l || not (all fitting l) ≡ true)
-    × (((l : List Attribute) → Line l line → repeats l || not (all fitting l) ≡ true) → judge (attributes_of line) ≡ fault 52)
+    → (judge (attributes_of line) ≡ fault MalformedLine → (l : List Attribute) → Line l line → repeats l || not (all fitting l) ≡ true)
+    × (((l : List Attribute) → Line l line → repeats l || not (all fitting l) ≡ true) → judge (attributes_of line) ≡ fault MalformedLine)
 unfolding judge
 refused_52 line = (λ e l h. not_51 l (repeats l || not (all fitting l)) (not (any is_id l && (any is_date l && any is_signal l))) (sym (judged_by line l h) ∙ e), λ h. go h (attributes_of line) refl)
   where
-    go : ((l : List Attribute) → Line l line → repeats l || not (all fitting l) ≡ true) → (o : Option (List Attribute)) → attributes_of line ≡ o → judge o ≡ fault 52
-    go h none e = refl
-    go h (some l) e = rw (h l (line_sound line l e))
+    go : ((l : List Attribute) → Line l line → repeats l || not (all fitting l) ≡ true) → (o : Option (List Attribute)) → attributes_of line ≡ o → judge o ≡ fault MalformedLine
+    go h None e = refl
+    go h (Some l) e = rw (h l (line_sound line l e))

@@ -1,6 +1,4 @@
-pub mod Hexadecimal
 pub mod Searches
-pub mod Turns
 pub mod Names
 pub mod Walks
 pub mod Looks

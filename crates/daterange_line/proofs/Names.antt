@@ -12,10 +12,9 @@ use lib.Seq.{drop-drop}
 use borrow.Author.Tests.{eq-eqb, ne_eqb, eqb-true, eqb-false, lt-ltb}
 use Rattle.table.proofs.Lists.{and_true}
 use Rattle.attribute_list.specs.Grammar.{all, Attribute, valid, text_of}
-use Rattle.attribute_list.specs.Cutting.{same, cut_of, end_of}
+use Rattle.attribute_list.specs.Cutting.{same, cut_of, end_of, some_cut}
 use Rattle.daterange_line.specs.Reading.{named, repeats}
 use Rattle.daterange_line.specs.Private.{earlier}
-use Rattle.attribute_list.specs.declared.cutting.Cut.TheVariants.{Is}
 use Rattle.attribute_list.proofs.Completes.{Exact, cut_exact, is_quoted, sized}
 use Rattle.daterange_line.proofs.Searches.{earlier_end}
 
@@ -41,13 +40,13 @@ pub record Before (line : List ℕ) (from at : ℕ) (l : List Attribute) : Type 
   pub place : at ≡ from + length (followed l)
 
 module _ (line : List ℕ) (end : ℕ) (name : List ℕ) where
-  earlier_cut : (m : ℕ) (at n : ℕ) (q : Bool) (k : ℕ) → at < end → cut_of (drop at line) ≡ Is n q k
+  earlier_cut : (m : ℕ) (at n : ℕ) (q : Bool) (k : ℕ) → at < end → cut_of (drop at line) ≡ some_cut n q k
       → earlier (suc m) line end name at ≡ same (take n (drop at line)) name || earlier m line end name (at + (end_of n q k + 1))
   unfolding earlier
   earlier_cut m at n q k h e = rw (lt-ltb at end h, e)
 
   pub earlier_is : (l : List Attribute) (m at : ℕ) → length l ≤ m → Before line at end l → earlier m line end name at ≡ named name l
-  unfolding followed named all
+  unfolding followed named
   earlier_is [] m at h b = earlier_end line end name at m (omega (arith, b.place))
   earlier_is (a ∷ l) zero at h b = absurd (omega arith)
   earlier_is (a ∷ l) (suc m) at h b =
@@ -58,7 +57,7 @@ module _ (line : List ℕ) (end : ℕ) (name : List ℕ) where
       let k = sized a.value in
       let x : Exact a (0x2C ∷ t) = cut_exact a (0x2C ∷ t) both.0 refl in
       let s : drop at line ≡ text_of a ++ (0x2C ∷ t) = b.text ∙ append_assoc (text_of a) (0x2C ∷ followed l) (drop end line) in
-      let c : cut_of (drop at line) ≡ Is n q k = ap cut_of s ∙ x.cut in
+      let c : cut_of (drop at line) ≡ some_cut n q k = ap cut_of s ∙ x.cut in
       let z : take n (drop at line) ≡ a.name = ap (take n) s ∙ ap (λ (y : Attribute). y.name) x.is in
       let d : drop (at + (end_of n q k + 1)) line ≡ t =
       sym (drop-drop (end_of n q k + 1) at line) ∙ ap (drop (end_of n q k + 1)) s ∙ sym (drop-drop 1 (end_of n q k) (text_of a ++ (0x2C ∷ t))) ∙ ap (drop 1) x.rest in

@@ -37,19 +37,16 @@ digit_is d e = ⊎_elim high low (hex_range d e)
     low h = (rw (lt-leb 0x41 d (omega arith)) (omega arith), omega arith)
 
 pub all_at : (p : ℕ → Bool) (s : List ℕ) (i : ℕ) → all p s ≡ true → i < length s → p (get_or s i 0) ≡ true
-unfolding all
 all_at p [] i e h = absurd (omega arith)
 all_at p (x ∷ s) zero e h = (and_true (p x) (all p s) e).0
 all_at p (x ∷ s) (suc i) e h = all_at p s i (and_true (p x) (all p s) e).1 (omega arith)
 
 all_append : (p : ℕ → Bool) (a b : List ℕ) → all p (a ++ b) ≡ all p a && all p b
-unfolding all
 all_append p [] b = refl
 all_append p (x ∷ a) b = rw (all_append p a b) (and_assoc (p x) (all p a) (all p b))
 
 -- one byte more
 pub all_next : (p : ℕ → Bool) (s : List ℕ) (i : ℕ) → i < length s → all p (take (i + 1) s) ≡ all p (take i s) && p (get_or s i 0)
-unfolding all
 all_next p s i h = rw (add-one i, take-suc s i 0 h, all_append p (take i s) (get_or s i 0 ∷ []), and_true_right (p (get_or s i 0)))
   where
     and_true_right : (b : Bool) → b && true ≡ b
@@ -57,7 +54,6 @@ all_next p s i h = rw (add-one i, take-suc s i 0 h, all_append p (take i s) (get
     and_true_right false = refl
 
 pub all_none : (p : ℕ → Bool) (s : List ℕ) → true ≡ all p (take 0 s)
-unfolding all
 all_none p s = refl
 
 -- ---- bytes of digits

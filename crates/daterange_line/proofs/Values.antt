@@ -5,7 +5,6 @@
 use Prim.Native.Nat.{ℕ, ◌+◌, ◌-◌, ◌%◌, ◌≤◌, ◌<◌}
 use mathlib.Core.Bool.{Bool, true, false, not, ◌&&◌, ◌||◌}
 use mathlib.Core.List.{List, [], ◌∷◌, ◌++◌, append_assoc}
-use mathlib.Core.Option.{Option, none, some}
 use mathlib.Core.Path.{◌≡◌, refl, ap, sym, ◌∙◌}
 use native.Mathlib.Omega.{arith}
 use lib.Dec.{ltb, eqb}
@@ -22,6 +21,8 @@ use Rattle.daterange_line.specs.declared.Known.{Known}
 use Rattle.daterange_line.specs.declared.Known.TheVariants.{Id, Date, Signal, Other}
 use Rattle.attribute_list.proofs.Lists.{later_list}
 use Rattle.daterange_line.proofs.Walks.{next}
+use Rattle.std.specs.Prelude.{Option, Some, None}
+use Rattle.daterange_line.specs.declared.LineRefusal.TheVariants.{MalformedLine, AttributeMissing}
 
 -- these bytes stand where a view says
 pub record Stands (line : List ℕ) (v : View) (b : List ℕ) : Type 0 where
@@ -74,7 +75,7 @@ some_any p (a ∷ l) e = omega arith
 
 pub view_value : (p : Attribute → Bool) (line : List ℕ) (l : List Attribute) (at : ℕ) → all valid l ≡ true → drop at line ≡ list_text l → any p l ≡ true
     → Stands line (view_of p at l) (value_of p l)
-unfolding all any view_of value_of list_text
+unfolding any view_of value_of list_text
 view_value p line [] at h e s = zero_one cc
 view_value p line (a ∷ l) at h e s =
     let both = and_true (valid a) (all valid l) h in
@@ -93,7 +94,7 @@ view_value p line (a ∷ l) at h e s =
 -- ---- a line that is not refused
 
 pub record Fine (o : Option (List Attribute)) (l : List Attribute) : Type 0 where
-  pub is : o ≡ some l
+  pub is : o ≡ Some l
   pub once : repeats l ≡ false
   pub fits : all fitting l ≡ true
   pub id : any is_id l ≡ true
@@ -102,11 +103,11 @@ pub record Fine (o : Option (List Attribute)) (l : List Attribute) : Type 0 wher
 
 pub judged_fine : (o : Option (List Attribute)) (l : List Attribute) → judge o ≡ fine l → Fine o l
 unfolding judge
-judged_fine none l e = zero_one cc
-judged_fine (some m) l e = go (repeats m) (all fitting m) (any is_id m) (any is_date m) (any is_signal m) refl refl refl refl refl e
+judged_fine None l e = zero_one cc
+judged_fine (Some m) l e = go (repeats m) (all fitting m) (any is_id m) (any is_date m) (any is_signal m) refl refl refl refl refl e
   where
     go : (r f i d s : Bool) → repeats m ≡ r → all fitting m ≡ f → any is_id m ≡ i → any is_date m ≡ d → any is_signal m ≡ s
-        → pick (r || not f) (fault 52) (pick (not (i && (d && s))) (fault 51) (fine m)) ≡ fine l → Fine (some m) l
+        → pick (r || not f) (fault MalformedLine) (pick (not (i && (d && s))) (fault AttributeMissing) (fine m)) ≡ fine l → Fine (Some m) l
     go true f i d s hr hf hi hd hs x = zero_one cc
     go false false i d s hr hf hi hd hs x = zero_one cc
     go false true false d s hr hf hi hd hs x = zero_one cc
@@ -122,7 +123,7 @@ signal_one (Signal c) (plain b) h e = h
 signal_one Other v h e = zero_one cc
 
 pub signal_hex : (l : List Attribute) → all fitting l ≡ true → any is_signal l ≡ true → hexadecimal (value_of is_signal l) ≡ true
-unfolding all any value_of
+unfolding any value_of
 signal_hex [] h e = zero_one cc
 signal_hex (a ∷ l) h e = let both = and_true (fitting a) (all fitting l) h in go (is_signal a) refl e both.0 (λ k. signal_hex l both.1 k)
   where

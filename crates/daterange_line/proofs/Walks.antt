@@ -2,7 +2,6 @@
 use Prim.Native.Nat.{ℕ, zero, suc, ◌+◌, ◌≤◌, ◌<◌}
 use mathlib.Core.Bool.{Bool, true, false, not, ◌&&◌, ◌||◌, or-true}
 use mathlib.Core.List.{List, [], ◌∷◌, ◌++◌, append_assoc}
-use mathlib.Core.Option.{Option, none, some}
 use mathlib.Core.Path.{◌≡◌, refl, ap, sym, ◌∙◌}
 use native.Mathlib.Omega.{arith}
 use lib.Dec.{eqb}
@@ -19,16 +18,16 @@ use Rattle.daterange_line.specs.Reading.{known_of, fitting, named, is_id, is_dat
 use Rattle.daterange_line.specs.Private.{earlier, or_else, noted, nothing, turn_by, turn_of, ended, walk_by, walk, found_in}
 use Rattle.daterange_line.specs.declared.Cue.{Cue}
 use Rattle.attribute_list.specs.declared.cutting.Cut.{Cut}
-use Rattle.attribute_list.specs.declared.cutting.Cut.TheVariants.{Nothing, Is}
 use Rattle.daterange_line.specs.declared.Known.{Known}
 use Rattle.daterange_line.specs.declared.Known.TheVariants.{Id, Date, Signal, Other}
 use Rattle.daterange_line.specs.declared.looking.Found.{Found}
-use Rattle.daterange_line.specs.declared.looking.Turn.TheVariants.{Bad, Done, More}
-use Rattle.daterange_line.specs.declared.looking.Look.{Look}
-use Rattle.daterange_line.specs.declared.looking.Look.TheVariants as look
 use Rattle.attribute_list.proofs.Completes.{Complete, Sound, cut_sound}
 use Rattle.attribute_list.proofs.Lists.{comma}
 use Rattle.daterange_line.proofs.Names.{followed, followed_length, followed_more, Before, earlier_is, repeats_after}
+use Rattle.std.specs.Prelude.{Option, Some, None, Result, Ok, Err}
+use Rattle.daterange_line.specs.declared.LineRefusal.{LineRefusal}
+use Rattle.daterange_line.specs.declared.LineRefusal.TheVariants.{MalformedLine}
+use Rattle.daterange_line.specs.declared.looking.Turn.TheVariants.{Done, More}
 
 -- ---- what is found, attribute by attribute, and all at once
 
@@ -115,44 +114,43 @@ gathered_all l = gathered_is l nothing 17 (omega arith) ∙ rw (view_or_none is_
 
 -- ---- the walk
 
-abbrev pub outcome : List Attribute → Found → ℕ → Option (List Attribute) → Look
-outcome seen f at none = look.Refused 52
-outcome seen f at (some l) = pick (repeats_after seen l || not (all fitting l)) (look.Refused 52) (ended (gathered f at l))
+abbrev pub outcome : List Attribute → Found → ℕ → Option (List Attribute) → Result Found LineRefusal
+outcome seen f at None = Err MalformedLine
+outcome seen f at (Some l) = pick (repeats_after seen l || not (all fitting l)) (Err MalformedLine) (ended (gathered f at l))
 
 -- one attribute's tests, and those of all after it
-one_last : (e t : Bool) (m : ℕ → Found → Look) (g : Found)
-    → walk_by m (pick (e || not t) Bad (Done g)) ≡ pick ((e || false) || not (t && true)) (look.Refused 52) (ended g)
+one_last : (e t : Bool) (m : ℕ → Found → Result Found LineRefusal) (g : Found)
+    → walk_by m (pick (e || not t) (Err MalformedLine) (Ok (Done g))) ≡ pick ((e || false) || not (t && true)) (Err MalformedLine) (ended g)
 one_last true t m g = refl
 one_last false true m g = refl
 one_last false false m g = refl
 
-one_more : (e t : Bool) (m : ℕ → Found → Look) (g : Found) (at : ℕ) (r u : Bool) (h : Look) → m at g ≡ pick (r || not u) (look.Refused 52) h
-    → walk_by m (pick (e || not t) Bad (More g at)) ≡ pick ((e || r) || not (t && u)) (look.Refused 52) h
+one_more : (e t : Bool) (m : ℕ → Found → Result Found LineRefusal) (g : Found) (at : ℕ) (r u : Bool) (h : Result Found LineRefusal) → m at g ≡ pick (r || not u) (Err MalformedLine) h
+    → walk_by m (pick (e || not t) (Err MalformedLine) (Ok (More g at))) ≡ pick ((e || r) || not (t && u)) (Err MalformedLine) h
 one_more true t m g at r u h x = refl
 one_more false true m g at r u h x = x
 one_more false false m g at r u h x = rw (or-true r)
 
-one_none : (e t : Bool) (m : ℕ → Found → Look) (g : Found) (at : ℕ) → m at g ≡ look.Refused 52 → walk_by m (pick (e || not t) Bad (More g at)) ≡ look.Refused 52
+one_none : (e t : Bool) (m : ℕ → Found → Result Found LineRefusal) (g : Found) (at : ℕ) → m at g ≡ Err MalformedLine → walk_by m (pick (e || not t) (Err MalformedLine) (Ok (More g at))) ≡ Err MalformedLine
 one_none true t m g at x = refl
 one_none false true m g at x = x
 one_none false false m g at x = refl
 
-one_listed : (m : ℕ → Found → Look) (seen : List Attribute) (a : Attribute) (f : Found) (at p : ℕ) → p ≡ next at a → (o : Option (List Attribute))
+one_listed : (m : ℕ → Found → Result Found LineRefusal) (seen : List Attribute) (a : Attribute) (f : Found) (at p : ℕ) → p ≡ next at a → (o : Option (List Attribute))
     → m p (noted f (known_of a.name) (view_at at a)) ≡ outcome (seen ++ (a ∷ [])) (noted f (known_of a.name) (view_at at a)) p o
-    → walk_by m (pick (named a.name seen || not (fitting a)) Bad (More (noted f (known_of a.name) (view_at at a)) p)) ≡ outcome seen f at (consed a o)
-unfolding repeats_after all gathered
-one_listed m seen a f at p e none x = one_none (named a.name seen) (fitting a) m (noted f (known_of a.name) (view_at at a)) p x
-one_listed m seen a f at p e (some l) x =
+    → walk_by m (pick (named a.name seen || not (fitting a)) (Err MalformedLine) (Ok (More (noted f (known_of a.name) (view_at at a)) p))) ≡ outcome seen f at (consed a o)
+unfolding repeats_after gathered
+one_listed m seen a f at p e None x = one_none (named a.name seen) (fitting a) m (noted f (known_of a.name) (view_at at a)) p x
+one_listed m seen a f at p e (Some l) x =
     let g = noted f (known_of a.name) (view_at at a) in
     one_more (named a.name seen) (fitting a) m g p (repeats_after (seen ++ (a ∷ [])) l) (all fitting l) (ended (gathered g p l)) x
-    ∙ ap (λ (i : ℕ). pick (repeats_after seen (a ∷ l) || not (all fitting (a ∷ l))) (look.Refused 52) (ended (gathered g i l))) e
+    ∙ ap (λ (i : ℕ). pick (repeats_after seen (a ∷ l) || not (all fitting (a ∷ l))) (Err MalformedLine) (ended (gathered g i l))) e
 
 value_view : (at n : ℕ) (q : Bool) (k : ℕ) (s : List ℕ) → Complete s n q k → ◌≡◌ {A = View} (record { at = at + value_from n q; len = k }) (view_at at (attribute_in s n q k))
 value_view at n true k s w = rw (w.named, w.valued)
 value_view at n false k s w = rw (w.named, w.valued)
 
 all_more : {A : Type 0} (p : A → Bool) (l : List A) (a : A) → all p l ≡ true → p a ≡ true → all p (l ++ (a ∷ [])) ≡ true
-unfolding all
 all_more p [] a h e = rw e
 all_more p (b ∷ l) a h e = let both = and_true (p b) (all p l) h in rw (both.0, all_more p l a both.1 e)
 
@@ -182,34 +180,34 @@ before_more line at seen n q k w b z =
     }
 
 module _ (line : List ℕ) where
-  walk_cut : (m at : ℕ) (seen : List Attribute) (f : Found) (c : Cut) → Sound (drop at line) c → Before line 17 at seen
+  walk_cut : (m at : ℕ) (seen : List Attribute) (f : Found) (c : Option Cut) → Sound (drop at line) c → Before line 17 at seen
       → ((p : ℕ) (more : List Attribute) (g : Found) → Before line 17 p more → walk m line p g ≡ outcome more g p (attributes_from m (drop p line)))
       → walk_by (walk m line) (turn_by line at f c) ≡ outcome seen f at (attributes_by (attributes_from m) (drop at line) c)
-  unfolding repeats_after all gathered
-  walk_cut m at seen f Nothing w b h = refl
-  walk_cut m at seen f (Is n q k) w b h =
+  unfolding repeats_after gathered
+  walk_cut m at seen f None w b h = refl
+  walk_cut m at seen f (Some c) w b h =
       let s = drop at line in
-      let a = attribute_in s n q k in
+      let a = attribute_in s c.name c.quoted c.value in
       let few : length seen ≤ length line = omega (arith, followed_length seen, ap length b.text, length-append (followed seen) (drop at line), length-drop 17 line) in
       let early : earlier (length line) line at a.name 17 ≡ named a.name seen = earlier_is line at a.name seen (length line) 17 few b in
-      let view = value_view at n q k s w in
-      rw (early, view) (go (eqb (length (drop (end_of n q k) s)) 0) refl)
+      let view = value_view at c.name c.quoted c.value s w in
+      rw (early, view) (go (eqb (length (drop (end_of c.name c.quoted c.value) s)) 0) refl)
     where
-      go : (z : Bool) → eqb (length (drop (end_of n q k) (drop at line))) 0 ≡ z
-          → walk_by (walk m line) (pick (named (take n (drop at line)) seen || not (fitting (attribute_in (drop at line) n q k))) Bad
-          (pick z (Done (noted f (known_of (take n (drop at line))) (view_at at (attribute_in (drop at line) n q k))))
-          (More (noted f (known_of (take n (drop at line))) (view_at at (attribute_in (drop at line) n q k))) (at + (end_of n q k + 1)))))
-          ≡ outcome seen f at (pick z (some (attribute_in (drop at line) n q k ∷ [])) (consed (attribute_in (drop at line) n q k) (attributes_from m (drop (end_of n q k + 1) (drop at line)))))
-      go true z = one_last (named (take n (drop at line)) seen) (fitting (attribute_in (drop at line) n q k)) (walk m line) (noted f (known_of (take n (drop at line))) (view_at at (attribute_in (drop at line) n q k)))
+      go : (z : Bool) → eqb (length (drop (end_of c.name c.quoted c.value) (drop at line))) 0 ≡ z
+          → walk_by (walk m line) (pick (named (take c.name (drop at line)) seen || not (fitting (attribute_in (drop at line) c.name c.quoted c.value))) (Err MalformedLine)
+          (pick z (Ok (Done (noted f (known_of (take c.name (drop at line))) (view_at at (attribute_in (drop at line) c.name c.quoted c.value)))))
+          (Ok (More (noted f (known_of (take c.name (drop at line))) (view_at at (attribute_in (drop at line) c.name c.quoted c.value))) (at + (end_of c.name c.quoted c.value + 1))))))
+          ≡ outcome seen f at (pick z (Some (attribute_in (drop at line) c.name c.quoted c.value ∷ [])) (consed (attribute_in (drop at line) c.name c.quoted c.value) (attributes_from m (drop (end_of c.name c.quoted c.value + 1) (drop at line)))))
+      go true z = one_last (named (take c.name (drop at line)) seen) (fitting (attribute_in (drop at line) c.name c.quoted c.value)) (walk m line) (noted f (known_of (take c.name (drop at line))) (view_at at (attribute_in (drop at line) c.name c.quoted c.value)))
       go false z =
           let s = drop at line in
-          let a = attribute_in s n q k in
+          let a = attribute_in s c.name c.quoted c.value in
           let g = noted f (known_of a.name) (view_at at a) in
-          let p = at + (end_of n q k + 1) in
-          let i = h p (seen ++ (a ∷ [])) g (before_more line at seen n q k w b z) in
-          let d : drop p line ≡ drop (end_of n q k + 1) s = sym (drop-drop (end_of n q k + 1) at line) in
+          let p = at + (end_of c.name c.quoted c.value + 1) in
+          let i = h p (seen ++ (a ∷ [])) g (before_more line at seen c.name c.quoted c.value w b z) in
+          let d : drop p line ≡ drop (end_of c.name c.quoted c.value + 1) s = sym (drop-drop (end_of c.name c.quoted c.value + 1) at line) in
           let e : p ≡ next at a = ap (λ (x : ℕ). at + (x + 1)) (sym w.size) in
-          one_listed (walk m line) seen a f at p e (attributes_from m (drop (end_of n q k + 1) s)) (i ∙ ap (λ (x : List ℕ). outcome (seen ++ (a ∷ [])) g p (attributes_from m x)) d)
+          one_listed (walk m line) seen a f at p e (attributes_from m (drop (end_of c.name c.quoted c.value + 1) s)) (i ∙ ap (λ (x : List ℕ). outcome (seen ++ (a ∷ [])) g p (attributes_from m x)) d)
 
   pub walk_is : (m at : ℕ) (seen : List Attribute) (f : Found) → Before line 17 at seen → walk m line at f ≡ outcome seen f at (attributes_from m (drop at line))
   unfolding walk turn_of attributes_from

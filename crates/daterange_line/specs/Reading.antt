@@ -1,21 +1,19 @@
 -- What an EXT-X-DATERANGE line says of a cue (document 02, Q-1).
-use Rattle.std.specs.Prelude.{ℕ, ◌+◌, ◌-◌, ◌*◌, ◌%◌, Bool, true, false, not, ◌&&◌, ◌||◌, List, [], ◌∷◌, leb, ltb, eqb, length, drop, get_or}
-use Rattle.std.proofs.Math.Option.{Option, none, some}
+use Rattle.std.specs.Prelude.{ℕ, ◌+◌, ◌-◌, ◌*◌, ◌%◌, Bool, true, false, not, ◌&&◌, ◌||◌, List, [], ◌∷◌, leb, ltb, eqb, length, drop, get_or, Option, Some, None, Result, Ok, Err}
 use Rattle.table.specs.Bits.{pick}
 use Rattle.table.specs.Lent.{no_view}
 use Rattle.table.specs.Writing.{Made, made, refused}
 use Rattle.table.specs.declared.View.{View}
 use Rattle.bit_stores.specs.Written.{answer_of, later_of}
-use Rattle.bit_stores.specs.declared.Written.{Written}
-use Rattle.bit_stores.specs.declared.Written.TheVariants as written
 use Rattle.attribute_list.specs.Grammar.{Value, quoted, plain, Attribute, text_of, hex_byte, all}
 use Rattle.attribute_list.specs.Cutting.{same, attributes_of}
 use Rattle.daterange_line.specs.declared.Cue.{Cue}
 use Rattle.daterange_line.specs.declared.Cue.TheVariants.{Cmd, Out, In}
-use Rattle.daterange_line.specs.declared.Read.{Read}
-use Rattle.daterange_line.specs.declared.Read.TheVariants.{Is, Refused}
 use Rattle.daterange_line.specs.declared.Known.{Known}
 use Rattle.daterange_line.specs.declared.Known.TheVariants.{Id, Date, Signal, Other}
+use Rattle.daterange_line.specs.declared.Reading.{Reading}
+use Rattle.daterange_line.specs.declared.LineRefusal.{LineRefusal}
+use Rattle.daterange_line.specs.declared.LineRefusal.TheVariants.{MalformedLine, AttributeMissing, TargetTooShort}
 
 -- ---- names
 
@@ -153,33 +151,39 @@ section_of l = octets (drop 2 (value_of is_signal l))
 
 -- ---- the reading
 
+-- document 02's numbers
+abbrev pub number_of : LineRefusal → ℕ
+number_of MalformedLine = 52
+number_of AttributeMissing = 51
+number_of TargetTooShort = 36
+
 -- a line's attributes, or the first of refusals 52 and 51 that applies
 pub data Judged : Type 0 where
-  fault : ℕ → Judged
+  fault : LineRefusal → Judged
   fine : List Attribute → Judged
 
 unfoldable pub judge : Option (List Attribute) → Judged
-judge none = fault 52
-judge (some l) =
-    pick (repeats l || not (all fitting l)) (fault 52)
-    (pick (not (any is_id l && (any is_date l && any is_signal l))) (fault 51)
+judge None = fault MalformedLine
+judge (Some l) =
+    pick (repeats l || not (all fitting l)) (fault MalformedLine)
+    (pick (not (any is_id l && (any is_date l && any is_signal l))) (fault AttributeMissing)
     (fine l))
 
 -- what is made of the target: the section's bytes
 unfoldable pub section_made : Judged → Made
-section_made (fault n) = refused n
+section_made (fault r) = refused (number_of r)
 section_made (fine l) = made (section_of l)
 
 -- the answer, of which the target's length decides: the list begins behind the tag's 17 bytes
-abbrev pub told : List Attribute → Written → Read
-told l (written.Wrote n) = Is (record { id = view_of is_id 17 l; date = view_of is_date 17 l; cue = cue_of l; len = n })
-told l (written.Refused n) = Refused n
+abbrev pub told : List Attribute → Result ℕ ℕ → Result Reading LineRefusal
+told l (Ok n) = Ok (record { id = view_of is_id 17 l; date = view_of is_date 17 l; cue = cue_of l; len = n })
+told l (Err n) = Err TargetTooShort
 
-unfoldable pub read_by : Judged → List ℕ → Read
-read_by (fault n) target = Refused n
+unfoldable pub read_by : Judged → List ℕ → Result Reading LineRefusal
+read_by (fault r) target = Err r
 read_by (fine l) target = told l (answer_of (made (section_of l)) target)
 
-abbrev pub read_of : List ℕ → List ℕ → Read
+abbrev pub read_of : List ℕ → List ℕ → Result Reading LineRefusal
 read_of line target = read_by (judge (attributes_of line)) target
 
 abbrev pub read_later : List ℕ → List ℕ → List ℕ

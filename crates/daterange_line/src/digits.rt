@@ -4,22 +4,11 @@ ghost use Rattle.attribute_list.specs.Grammar.{all, hex_byte};
 ghost use Rattle.table.specs.Lent.{stored};
 ghost use Rattle.daterange_line.specs.Reading.{hexadecimal, digit_of, octets};
 
+#[tactic(auto, unfolding(attribute_list::specs::Grammar::hex_byte))]
 fn in_hex(b: u8) -> bool
     ensures { result ≡ hex_byte b }
 {
-    if 0x41 <= b {
-        return b <= 0x46;
-    }
-    if b < 0x30 {
-        return false;
-    }
-    b <= 0x39
-}
-
-fn both(a: bool, b: bool) -> bool
-    ensures { result ≡ a && b }
-{
-    if a { b } else { false }
+    matches!(b, b'A'..=b'F' | b'0'..=b'9')
 }
 
 // Whether all are digits. The loop goes on behind one that is not: so it takes many bytes a turn when it is compiled.
@@ -27,42 +16,22 @@ fn are_digits(s: &[u8]) -> bool
     ensures { result ≡ all hex_byte s.now }
 {
     let mut good = true;
-    let mut i: usize = 0;
-    while i < s.len() {
-        good = both(good, in_hex(s[i]));
-        i += 1;
+    for b in s {
+        good &= in_hex(*b);
     }
     good
 }
 
-// x or X.
-fn is_x(b: u8) -> bool
-    ensures { result ≡ eqb b 0x78 || eqb b 0x58 }
-{
-    if b == 0x78 {
-        return true;
-    }
-    b == 0x58
-}
-
 // 0x or 0X, and an even number of digits, at least two.
+#[tactic(auto, unfolding(crate::specs::Reading::hexadecimal))]
 pub(crate) fn is_hexadecimal(value: &[u8]) -> bool
     ensures { result ≡ hexadecimal value.now }
 {
-    let len = value.len();
-    if len <= 2 {
-        return false;
-    }
-    if len % 2 != 0 {
-        return false;
-    }
-    if value[0] != 0x30 {
-        return false;
-    }
-    if !is_x(value[1]) {
-        return false;
-    }
-    are_digits(&value[2..])
+    value.len() > 2
+        && value.len() % 2 == 0
+        && value[0] == b'0'
+        && matches!(value[1], b'x' | b'X')
+        && are_digits(&value[2..])
 }
 
 // Without a branch: the low half of a capital is 1 to 6, and its high half tells it from a figure.
@@ -85,10 +54,7 @@ pub(crate) fn decode(target: &mut [u8], digits: &[u8])
     requires { (all hex_byte digits.now ≡ true) × (length digits.now % 2 ≡ 0) × (length digits.now / 2 ≤ length target.old) }
     ensures { target.new ≡ stored target.old 0 (octets digits.now) }
 {
-    let n = digits.len() / 2;
-    let mut i: usize = 0;
-    while i < n {
+    for i in 0..digits.len() / 2 {
         target[i] = pair(digits[i * 2], digits[i * 2 + 1]);
-        i += 1;
     }
 }

@@ -7,46 +7,38 @@ use attribute_list::bytes::same_bytes;
 use attribute_list::cutting::{Cut, cut_at};
 
 // Where an attribute's value begins: behind the name, `=` and a quote.
-pub(crate) fn value_from(name: usize, quoted: bool) -> usize
-    requires { name < 2 ^ 63 }
-    ensures { result ≡ value_from name quoted }
+pub(crate) fn value_from(cut: Cut) -> usize
+    requires { cut.name < 2 ^ 63 }
+    ensures { result ≡ value_from cut.name cut.quoted }
 {
-    if quoted { name + 2 } else { name + 1 }
+    cut.name + if cut.quoted { 2 } else { 1 }
 }
 
 // Where an attribute ends.
-pub(crate) fn size(name: usize, quoted: bool, value: usize) -> usize
-    requires { end_of name quoted value < 2 ^ 63 }
-    ensures { result ≡ end_of name quoted value }
+pub(crate) fn size(cut: Cut) -> usize
+    requires { end_of cut.name cut.quoted cut.value < 2 ^ 63 }
+    ensures { result ≡ end_of cut.name cut.quoted cut.value }
 {
-    if quoted {
-        name + 2 + value + 1
-    } else {
-        name + 1 + value
-    }
+    let end = value_from(cut) + cut.value;
+    if cut.quoted { end + 1 } else { end }
 }
 
-// Whether an attribute before the one at `end` has its name. No line has more attributes than bytes.
-pub(crate) fn has_earlier(line: &[u8], end: usize, name: &[u8]) -> bool
-    ensures { result ≡ earlier (length line.now) line.now end name.now 17 }
+// Whether an attribute before the one at `place` has its name. No line has more attributes than bytes.
+pub(crate) fn has_earlier(line: &[u8], place: usize, name: &[u8]) -> bool
+    ensures { result ≡ earlier (length line.now) line.now place name.now 17 }
 {
     let mut at: usize = 17;
-    let mut left = line.len();
-    while 0 < left {
-        if end <= at {
+    for _ in 0..line.len() {
+        if place <= at {
             return false;
         }
-        match cut_at(line, at) {
-            Cut::Nothing => return false,
-            Cut::Is(n, quoted, k) => {
-                let after = at + n;
-                if same_bytes(&line[at..after], name) {
-                    return true;
-                }
-                at = at + (size(n, quoted, k) + 1);
-            }
+        let Some(cut) = cut_at(line, at) else {
+            return false;
+        };
+        if same_bytes(&line[at..at + cut.name], name) {
+            return true;
         }
-        left -= 1;
+        at += size(cut) + 1;
     }
     false
 }

@@ -2,10 +2,10 @@
 #![tactic(auto)]
 
 ghost use Rattle.std.specs.Prelude.{◌≡◌};
-ghost use Rattle.daterange_line.specs.Reading.{read_of, read_later};
+ghost use Rattle.daterange_line.specs.Reading.{number_of, read_of, read_later};
 
 use crate::digits::decode;
-use crate::looking::{Look, find_cue};
+use crate::looking::find_cue;
 use table::View;
 
 mod digits;
@@ -38,33 +38,44 @@ pub struct Reading {
     pub len: usize,
 }
 
-// A reading, or the number of its refusal: 52, 51, 36.
+// Why a line is not read, in the order of the tests.
 #[derive(Clone, Copy)]
-pub enum Read {
-    Is(Reading),
-    Refused(u8),
+pub enum LineRefusal {
+    MalformedLine,
+    AttributeMissing,
+    TargetTooShort,
+}
+
+impl LineRefusal {
+    // Document 02's number.
+    pub fn number(self) -> u8
+        ensures { result ≡ number_of self }
+    {
+        match self {
+            LineRefusal::MalformedLine => 52,
+            LineRefusal::AttributeMissing => 51,
+            LineRefusal::TargetTooShort => 36,
+        }
+    }
 }
 
 // Reads a line that has no line end. The section's bytes go into the target and are not judged; a refusal changes no byte of it.
-pub fn read_line(line: &[u8], target: &mut [u8]) -> Read
+pub fn read_line(line: &[u8], target: &mut [u8]) -> Result<Reading, LineRefusal>
     ensures answer { result ≡ read_of line.now target.old }
     ensures bytes { target.new ≡ read_later line.now target.old }
 {
-    match find_cue(line) {
-        Look::Refused(n) => Read::Refused(n),
-        Look::Is(f) => {
-            let id = f.id;
-            let date = f.date;
-            let cue = f.cue;
-            let digits = f.digits;
-            let at = digits.at + 2;
-            let end = digits.at + digits.len;
-            let len = (end - at) / 2;
-            if target.len() < len {
-                return Read::Refused(36);
-            }
-            decode(target, &line[at..end]);
-            Read::Is(Reading { id, date, cue, len })
-        }
+    let f = find_cue(line)?;
+    let from = f.digits.at + 2;
+    let end = f.digits.at + f.digits.len;
+    let len = (end - from) / 2;
+    if target.len() < len {
+        return Err(LineRefusal::TargetTooShort);
     }
+    decode(target, &line[from..end]);
+    Ok(Reading {
+        id: f.id,
+        date: f.date,
+        cue: f.cue,
+        len,
+    })
 }

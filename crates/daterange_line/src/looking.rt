@@ -6,9 +6,9 @@ ghost use Rattle.daterange_line.specs.Private.{or_else, noted, nothing, turn_of,
 
 use crate::digits::is_hexadecimal;
 use crate::earlier::{has_earlier, size, value_from};
-use crate::{Cue, Known};
+use crate::{Cue, Known, LineRefusal};
 use attribute_list::bytes::same_bytes;
-use attribute_list::cutting::{Cut, cut_at};
+use attribute_list::cutting::cut_at;
 use table::View;
 
 // What was found so far: a blank view is one that was not. `digits` has the 0x too.
@@ -20,20 +20,14 @@ pub(crate) struct Found {
     pub digits: View,
 }
 
-// After one attribute more: a fault, the last one, or where the next one begins.
+// After one attribute more: it was the last one, or where the next one begins.
 #[derive(Clone, Copy)]
 pub(crate) enum Turn {
-    Bad,
     Done(Found),
     More(Found, usize),
 }
 
-#[derive(Clone, Copy)]
-pub(crate) enum Look {
-    Refused(u8),
-    Is(Found),
-}
-
+#[tactic(auto, unfolding(crate::specs::Reading::known_of))]
 fn known_as(name: &[u8]) -> Known
     ensures { result ≡ known_of name.now }
 {
@@ -60,14 +54,8 @@ fn is_fit(word: Known, quoted: bool, value: &[u8]) -> bool
     ensures { result ≡ fits_for word (value_in quoted value.now) }
 {
     match word {
-        Known::Id => quoted,
-        Known::Date => quoted,
-        Known::Signal(_) => {
-            if quoted {
-                return false;
-            }
-            is_hexadecimal(value)
-        }
+        Known::Id | Known::Date => quoted,
+        Known::Signal(_) => !quoted && is_hexadecimal(value),
         Known::Other => true,
     }
 }
@@ -81,81 +69,61 @@ fn or_else(v: View, w: View) -> View
 fn note(f: Found, word: Known, v: View) -> Found
     ensures { result ≡ noted f word v }
 {
-    let id = f.id;
-    let date = f.date;
-    let cue = f.cue;
-    let digits = f.digits;
     match word {
         Known::Id => Found {
-            id: or_else(id, v),
-            date,
-            cue,
-            digits,
+            id: or_else(f.id, v),
+            ..f
         },
         Known::Date => Found {
-            id,
-            date: or_else(date, v),
-            cue,
-            digits,
+            date: or_else(f.date, v),
+            ..f
         },
-        Known::Signal(c) => {
-            if digits.at == 0 {
-                return Found {
-                    id,
-                    date,
-                    cue: c,
-                    digits: v,
-                };
-            }
-            f
-        }
-        Known::Other => f,
+        Known::Signal(c) if f.digits.at == 0 => Found {
+            cue: c,
+            digits: v,
+            ..f
+        },
+        Known::Signal(_) | Known::Other => f,
     }
 }
 
-fn turn_at(line: &[u8], at: usize, f: Found) -> Turn
+#[tactic(auto, unfolding(crate::specs::Private::turn_of))]
+fn turn_at(line: &[u8], at: usize, f: Found) -> Result<Turn, LineRefusal>
     ensures { result ≡ turn_of line.now at f }
 {
-    match cut_at(line, at) {
-        Cut::Nothing => Turn::Bad,
-        Cut::Is(n, quoted, k) => {
-            let behind = at + n;
-            let name = &line[at..behind];
-            if has_earlier(line, at, name) {
-                return Turn::Bad;
-            }
-            let word = known_as(name);
-            let from = at + value_from(n, quoted);
-            let end = from + k;
-            if !is_fit(word, quoted, &line[from..end]) {
-                return Turn::Bad;
-            }
-            let g = note(f, word, View { at: from, len: k });
-            let next = at + size(n, quoted, k);
-            if line.len() <= next {
-                return Turn::Done(g);
-            }
-            Turn::More(g, next + 1)
-        }
+    let cut = cut_at(line, at).ok_or(LineRefusal::MalformedLine)?;
+    let name = &line[at..at + cut.name];
+    if has_earlier(line, at, name) {
+        return Err(LineRefusal::MalformedLine);
     }
+    let word = known_as(name);
+    let from = at + value_from(cut);
+    if !is_fit(word, cut.quoted, &line[from..from + cut.value]) {
+        return Err(LineRefusal::MalformedLine);
+    }
+    let g = note(
+        f,
+        word,
+        View {
+            at: from,
+            len: cut.value,
+        },
+    );
+    let end = size(cut);
+    if line.len() <= at + end {
+        return Ok(Turn::Done(g));
+    }
+    Ok(Turn::More(g, at + (end + 1)))
 }
 
-fn finish(f: Found) -> Look
+#[tactic(auto, unfolding(crate::specs::Private::ended))]
+fn finish(f: Found) -> Result<Found, LineRefusal>
     ensures { result ≡ ended f }
 {
-    let id = f.id;
-    let date = f.date;
-    let digits = f.digits;
-    if id.at == 0 {
-        return Look::Refused(51);
+    if f.id.at == 0 || f.date.at == 0 || f.digits.at == 0 {
+        return Err(LineRefusal::AttributeMissing);
     }
-    if date.at == 0 {
-        return Look::Refused(51);
-    }
-    if digits.at == 0 {
-        return Look::Refused(51);
-    }
-    Look::Is(f)
+    Ok(f)
 }
 
 fn nothing_found() -> Found
@@ -170,29 +138,23 @@ fn nothing_found() -> Found
     }
 }
 
-// What a line says, or the first of 52 and 51 that applies. No line has more attributes than bytes.
-pub(crate) fn find_cue(line: &[u8]) -> Look
+// What a line says, or the first refusal that applies but for the last. No line has more attributes than bytes.
+pub(crate) fn find_cue(line: &[u8]) -> Result<Found, LineRefusal>
     ensures { result ≡ look_of line.now }
 {
-    if line.len() < 17 {
-        return Look::Refused(52);
-    }
-    if !same_bytes(&line[0..17], b"#EXT-X-DATERANGE:") {
-        return Look::Refused(52);
+    if line.len() < 17 || !same_bytes(&line[..17], b"#EXT-X-DATERANGE:") {
+        return Err(LineRefusal::MalformedLine);
     }
     let mut f = nothing_found();
     let mut at: usize = 17;
-    let mut left = line.len();
-    while 0 < left {
-        match turn_at(line, at, f) {
-            Turn::Bad => return Look::Refused(52),
+    for _ in 0..line.len() {
+        match turn_at(line, at, f)? {
             Turn::Done(g) => return finish(g),
             Turn::More(g, next) => {
                 f = g;
                 at = next;
             }
         }
-        left -= 1;
     }
-    Look::Refused(52)
+    Err(LineRefusal::MalformedLine)
 }

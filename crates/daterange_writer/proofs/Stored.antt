@@ -1,16 +1,15 @@
 -- A line as the pieces that are stored one behind the other.
-use Prim.Native.Nat.{ℕ, ◌+◌, ◌-◌, ◌*◌, ◌/◌, ◌≤◌, ◌<◌}
-use mathlib.Core.Bool.{Bool, true, false}
+use Prim.Native.Nat.{ℕ, ◌+◌, ◌*◌, ◌≤◌}
+use mathlib.Core.Bool.{true, false}
 use mathlib.Core.List.{List, [], ◌∷◌, ◌++◌, append_assoc}
 use mathlib.Core.Path.{◌≡◌, refl, ap, sym, ◌∙◌}
 use native.Mathlib.Omega.{arith}
 use lib.Dec.{leb}
 use lib.ListN.{length, length-append}
-use borrow.Author.Tests.{le-leb, lt-leb, leb-true, leb-false}
+use borrow.Author.Tests.{leb-true, leb-false}
 use Rattle.table.specs.Lent.{stored}
 use Rattle.table.specs.Writing.{made, refused}
 use Rattle.bit_stores.specs.Written.{answer_of, later_of}
-use Rattle.bit_stores.specs.declared.Written.{Written}
 use Rattle.bit_stores.proofs.Writes.{short_answer, wrote_answer}
 use Rattle.table.proofs.Lists.{append_nil}
 use Rattle.table.proofs.Stores.{stored_append}
@@ -18,11 +17,10 @@ use Rattle.attribute_list.specs.Grammar.{all, quoted_byte, text_of, later_text, 
 use Rattle.daterange_writer.specs.Writing.{hex_of, line_of, line_made}
 use Rattle.daterange_line.specs.Reading.{cue_name}
 use Rattle.daterange_writer.specs.Pieces.{opening, middle, pieces}
-use Rattle.attribute_list.specs.Cutting.{span}
 use Rattle.daterange_line.specs.declared.Cue.{Cue}
 use Rattle.daterange_line.specs.declared.Cue.TheVariants.{Cmd, Out, In}
-use Rattle.attribute_list.proofs.Runs.{span_all}
 use Rattle.daterange_writer.proofs.Digits.{hex_length}
+use Rattle.std.proofs.Common.{Ok, Err}
 
 pub pieces_length : (id date word digits : List ℕ) → length (pieces id date word digits) ≡ 35 + length id + length date + length word + length digits
 unfolding pieces
@@ -73,36 +71,22 @@ section_stored t t1 t2 t3 t4 t5 t6 id date word section h = all_stored t t1 t2 t
 
 -- ---- is there room
 
-pub room_last : (room id date word section : ℕ) → 35 ≤ room → id ≤ room - 35 → date ≤ room - 35 - id → word ≤ room - 35 - id - date
-    → leb section ((room - 35 - id - date - word) / 2) ≡ leb (35 + id + date + word + section * 2) room
-room_last room id date word section a b c d = go (leb section ((room - 35 - id - date - word) / 2)) refl
-  where
-    go : (t : Bool) → leb section ((room - 35 - id - date - word) / 2) ≡ t → t ≡ leb (35 + id + date + word + section * 2) room
-    go true e = sym (le-leb (35 + id + date + word + section * 2) room (omega (arith, leb-true section ((room - 35 - id - date - word) / 2) e)))
-    go false e = sym (lt-leb (35 + id + date + word + section * 2) room (omega (arith, leb-false section ((room - 35 - id - date - word) / 2) e)))
-
 module _ (t id date word section : List ℕ) where
   pub store_short : leb (35 + length id + length date + length word + length section * 2) (length t) ≡ false
-      → (Written.Refused 36 ≡ answer_of (made (pieces id date word (hex_of section))) t) × (t ≡ later_of (made (pieces id date word (hex_of section))) t)
+      → (Err 36 ≡ answer_of (made (pieces id date word (hex_of section))) t) × (t ≡ later_of (made (pieces id date word (hex_of section))) t)
   store_short e =
       let p = pieces id date word (hex_of section) in
       short_answer (made p) t p refl (omega (arith, pieces_size id date word section, leb-false (35 + length id + length date + length word + length section * 2) (length t) e))
 
   pub store_all : (later : List ℕ) → leb (35 + length id + length date + length word + length section * 2) (length t) ≡ true → later ≡ stored t 0 (pieces id date word (hex_of section))
-      → (Written.Wrote (35 + length id + length date + length word + length section * 2) ≡ answer_of (made (pieces id date word (hex_of section))) t)
+      → (Ok (35 + length id + length date + length word + length section * 2) ≡ answer_of (made (pieces id date word (hex_of section))) t)
       × (later ≡ later_of (made (pieces id date word (hex_of section))) t)
   store_all later e f =
       let p = pieces id date word (hex_of section) in
       let x = wrote_answer (made p) t p refl (omega (arith, pieces_size id date word section, leb-true (35 + length id + length date + length word + length section * 2) (length t) e)) in
-      (ap Written.Wrote (sym (pieces_size id date word section)) ∙ x.0, f ∙ x.1)
+      (ap Ok (sym (pieces_size id date word section)) ∙ x.0, f ∙ x.1)
 
 -- ---- ID and START-DATE
-
-pub quoted_all : (s : List ℕ) (r : ℕ) → r ≡ 0 + span quoted_byte s → length s ≤ r → all quoted_byte s ≡ true
-quoted_all s r e h = span_all quoted_byte s ∙ le-leb (length s) (span quoted_byte s) (omega arith)
-
-pub quoted_not : (s : List ℕ) (r : ℕ) → r ≡ 0 + span quoted_byte s → r < length s → all quoted_byte s ≡ false
-quoted_not s r e h = span_all quoted_byte s ∙ lt-leb (length s) (span quoted_byte s) (omega arith)
 
 -- ", the cue's name, =0x
 abbrev pub word : Cue → List ℕ

@@ -15,12 +15,9 @@ pub(crate) fn encode(target: &mut [u8], at: usize, section: &[u8])
     requires { at + length section.now * 2 ≤ length target.old }
     ensures { target.new ≡ stored target.old at (hex_of section.now) }
 {
-    let mut i: usize = 0;
-    while i < section.len() {
-        let b = section[i];
+    for (i, b) in section.iter().enumerate() {
         let to = at + i * 2;
         target[to] = capital(b / 16);
         target[to + 1] = capital(b % 16);
-        i += 1;
     }
 }

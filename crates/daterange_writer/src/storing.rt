@@ -1,5 +1,5 @@
 // The stores of a line: all tests first.
-ghost use Rattle.std.specs.Prelude.{◌≡◌, ◌+◌, ◌*◌, ◌≤◌, leb, length};
+ghost use Rattle.std.specs.Prelude.{◌≡◌, ◌+◌, ◌-◌, ◌*◌, ◌≤◌, SomeIff, leb, length};
 ghost use Rattle.table.specs.Lent.{stored};
 ghost use Rattle.table.specs.Writing.{made};
 ghost use Rattle.bit_stores.specs.Written.{answer_of, later_of};
@@ -7,29 +7,26 @@ ghost use Rattle.daterange_writer.specs.Writing.{hex_of};
 ghost use Rattle.daterange_writer.specs.Pieces.{pieces};
 
 use crate::encoding::encode;
-use bit_stores::Written;
 use table::store::put_bytes;
+
+// How much room is left behind a line's parts of these lengths but for the section; nothing where they don't fit.
+fn room_behind(room: usize, id: usize, date: usize, word: usize) -> Option<usize>
+    ensures { SomeIff result (35 + id + date + word ≤ room) (room - 35 - id - date - word) }
+{
+    room.checked_sub(35)?
+        .checked_sub(id)?
+        .checked_sub(date)?
+        .checked_sub(word)
+}
 
 // Whether a line of parts of these lengths fits. No sum is made that could wrap.
 fn has_room(room: usize, id: usize, date: usize, word: usize, section: usize) -> bool
     ensures { result ≡ leb (35 + id + date + word + section * 2) room }
 {
-    if room < 35 {
-        return false;
+    match room_behind(room, id, date, word) {
+        None => false,
+        Some(left) => section <= left / 2,
     }
-    let behind_names = room - 35;
-    if behind_names < id {
-        return false;
-    }
-    let behind_id = behind_names - id;
-    if behind_id < date {
-        return false;
-    }
-    let behind_date = behind_id - date;
-    if behind_date < word {
-        return false;
-    }
-    section <= (behind_date - word) / 2
 }
 
 fn put_line(section: &[u8], word: &[u8], id: &[u8], date: &[u8], target: &mut [u8])
@@ -54,7 +51,7 @@ pub(crate) fn store_line(
     id: &[u8],
     date: &[u8],
     target: &mut [u8],
-) -> Written
+) -> Result<usize, u8>
     ensures { (result ≡ answer_of (made (pieces id.now date.now word.now (hex_of section.now))) target.old) × (target.new ≡ later_of (made (pieces id.now date.now word.now (hex_of section.now))) target.old) }
 {
     if !has_room(
@@ -64,9 +61,9 @@ pub(crate) fn store_line(
         word.len(),
         section.len(),
     ) {
-        return Written::Refused(36);
+        return Err(36);
     }
     let size = 35 + id.len() + date.len() + word.len() + section.len() * 2;
     put_line(section, word, id, date, target);
-    Written::Wrote(size)
+    Ok(size)
 }

@@ -12,24 +12,25 @@ use Rattle.table.specs.Table.{Table, done, uimsbf, got, short, parse}
 use Rattle.table.proofs.Fields.{byte_field}
 use Rattle.table.proofs.Steps.{takes_in, lacks_in, takes_number, lacks_number, takes_remaining}
 use Rattle.descriptor.specs.Segmentation.{sub_segment, sub_segments, back}
-use Rattle.descriptor.specs.declared.segmentation.SubSegments.{SubSegments}
+use Rattle.std.proofs.Common.{Some, None, Option}
+use Rattle.descriptor.specs.declared.segmentation.SubSegment.{SubSegment}
 
 -- the byte whose bits start at p
 byte_at : (s : List ℕ) (bytes : (j : ℕ) → get_or s j 0 < 256) (j p : ℕ) → j < length s → j * 8 ≡ p → get_or s j 0 ≡ field (bits_of s) p 8
 byte_at s bytes j p h e = sym (byte_field s j h (bytes j)) ∙ ap (λ (x : ℕ). field (bits_of s) x 8) e
 
 -- ---- sub-segments
-abbrev two : Table SubSegments
+abbrev two : Table (Option SubSegment)
 two =
     uimsbf 8 (λ x. (sub_segment x).sub_segment_num) λ number.
     uimsbf 8 (λ x. (sub_segment x).sub_segments_expected) λ expected.
-    done (SubSegments.Is (record { sub_segment_num = number; sub_segments_expected = expected }))
+    done (Some (record { sub_segment_num = number; sub_segments_expected = expected }))
 
 module _ (s : List ℕ) (i n : ℕ) (en : n ≡ length s - i) where
   left : (length s * 8 - i * 8) / 8 ≡ n
   left = omega arith
 
-  pub no_sub_segments : n ≡ 0 → parse sub_segments (bits_of s) (i * 8) ≡ got SubSegments.Absent (i * 8)
+  pub no_sub_segments : n ≡ 0 → parse sub_segments (bits_of s) (i * 8) ≡ got None (i * 8)
   unfolding sub_segments
   no_sub_segments h = takes_remaining s (i * 8) _ _ ∙ rw (left, eq-eqb n 0 h)
 
@@ -44,7 +45,7 @@ module _ (s : List ℕ) (i n : ℕ) (en : n ≡ length s - i) where
         left_over ∙ takes_number s (i * 8) 8 _ _ _ (omega arith) refl ∙ lacks_number s (i * 8 + 8) 8 _ _ (omega arith) ∙ ap (short 1) z
 
     pub sub_segments_are : (n ≡ 1 → ⊥) → ((j : ℕ) → get_or s j 0 < 256)
-        → parse sub_segments (bits_of s) (i * 8) ≡ got (SubSegments.Is (record { sub_segment_num = get_or s i 0; sub_segments_expected = get_or s (i + 1) 0 })) (i * 8 + 8 + 8)
+        → parse sub_segments (bits_of s) (i * 8) ≡ got (Some (record { sub_segment_num = get_or s i 0; sub_segments_expected = get_or s (i + 1) 0 })) (i * 8 + 8 + 8)
     sub_segments_are h bytes =
         left_over ∙ takes_number s (i * 8) 8 (get_or s i 0) _ _ (omega arith) (byte_at s bytes i (i * 8) (omega arith) refl)
         ∙ takes_number s (i * 8 + 8) 8 (get_or s (i + 1) 0) _ _ (omega arith) (byte_at s bytes (i + 1) (i * 8 + 8) (omega arith) (omega arith))
@@ -75,7 +76,7 @@ module _ (s : List ℕ) (i : ℕ) where
         takes_number s (i * 8) 8 _ _ _ (omega arith) refl ∙ takes_number s (i * 8 + 8) 8 _ _ _ (omega arith) refl ∙ takes_number s (i * 8 + 8 + 8) 8 _ _ _ (omega arith) refl
         ∙ lacks_in sub_segments _ _ (bits_of s) (i * 8 + 8 + 8 + 8) x a (ap (parse sub_segments (bits_of s)) next ∙ e)
 
-    pub back_is : ((j : ℕ) → get_or s j 0 < 256) → (t : SegmentationTypeId) (z : SubSegments) (m : ℕ) → t ≡ segmentation_type_of (get_or s i 0)
+    pub back_is : ((j : ℕ) → get_or s j 0 < 256) → (t : SegmentationTypeId) (z : Option SubSegment) (m : ℕ) → t ≡ segmentation_type_of (get_or s i 0)
         → parse sub_segments (bits_of s) ((i + 3) * 8) ≡ got z m
         → parse back (bits_of s) (i * 8) ≡ got (record { segmentation_type_id = t; segment_num = get_or s (i + 1) 0; segments_expected = get_or s (i + 2) 0; sub_segments = z }) m
     unfolding back

@@ -12,6 +12,7 @@ use lib.Seq.{sets, sets-eq}
 use Rattle.table.specs.Bits.{bits_of, field}
 use Rattle.table.specs.Lent.{viewed}
 use Rattle.table.specs.Table.{Table, done, must, reserved, list, ones, Answer, got, short, parse}
+use Rattle.table.specs.declared.cursor.Field.{Field}
 use Rattle.table.specs.declared.cursor.Short.{Short}
 use Rattle.table.proofs.Laws.{field_there}
 use Rattle.table.proofs.Reading.{field_lt}
@@ -21,15 +22,16 @@ use Rattle.descriptor.specs.Segmentation.{delivery_restrictions, component, blan
 use Rattle.descriptor.specs.Private.{filling}
 use Rattle.descriptor.specs.Descriptor.{descriptor_of}
 use Rattle.descriptor.specs.Full.{filled, blank_beside, beside_in, beside_of, beside_read, identifier_read, full_of}
-use Rattle.descriptor.specs.declared.DescriptorRead.{DescriptorRead}
 use Rattle.descriptor.specs.declared.back.Back.{Back}
-use Rattle.descriptor.specs.declared.front.Component.{Component}
 use Rattle.descriptor.specs.declared.front.Front.{Front}
 use Rattle.descriptor.specs.declared.segmentation.SegmentationComponent.{SegmentationComponent}
 use Rattle.descriptor.specs.declared.segmentation.DescriptorDetail.TheVariants.{Cancel, Active}
 use Rattle.descriptor.specs.declared.segmentation.SegmentationMode.{SegmentationMode}
 use Rattle.descriptor.specs.declared.segmentation.SegmentationUpid.{SegmentationUpid}
 use Rattle.descriptor.specs.declared.full.Beside.{Beside}
+use Rattle.std.proofs.Common.{Result}
+use Rattle.descriptor.specs.declared.Descriptor.{Descriptor}
+use Rattle.upid.specs.declared.Refusal.{Refusal}
 
 -- ---- where the components lie
 reads_ones : {X : Type 0} (s : List ℕ) (at w : ℕ) (t : Table X) (y : X) (m : ℕ) → parse (ones w t) (bits_of s) at ≡ got y m → parse t (bits_of s) (at + w) ≡ got y m
@@ -133,12 +135,6 @@ filled_is n bs at cs m h e = rw e (sets_front 255 blank_component cs (omega (ari
 abbrev pub filling_from : List ℕ → List SegmentationComponent → ℕ → ℕ → ℕ → List SegmentationComponent
 filling_from s out i n c = filling out i (parse (list n blank_component component) (bits_of s) (c * 8))
 
-pub fill_start : (s : List ℕ) (n c : ℕ) (out : List SegmentationComponent) → out ≡ filled [] → (length out ≡ 255) × (filling_from s out 0 (n - 0) c ≡ filling_from s (filled []) 0 n c)
-unfolding filled
-fill_start s n c out e =
-    let z : n - 0 ≡ n = omega arith in
-    (ap length e ∙ length-replicate 255 blank_component, rw (e, z))
-
 filling_onward : (bs : List ℕ) (out : List SegmentationComponent) (i : ℕ) (y : SegmentationComponent) (r : Answer (List SegmentationComponent))
     → filling out i (onward bs (λ ys. done (y ∷ ys)) r) ≡ filling (set out i y) (suc i) r
 unfolding filling
@@ -157,15 +153,14 @@ module _ (s : List ℕ) (n from : ℕ) (out : List SegmentationComponent) (i c :
     left_at : filling_from s out i (n - i) c ≡ filling_from s out i (suc (n - (i + 1))) c
     left_at = ap (λ (k : ℕ). filling_from s out i k c) (let z : n - i ≡ suc (n - (i + 1)) = omega arith in z)
 
-    pub fill_turn : (k : ℕ) → k ≡ i → (m : Component) → parse component (bits_of s) (c * 8) ≡ got m.component (m.next * 8)
-        → filling_from s (set out k m.component) (i + 1) (n - (i + 1)) m.next ≡ filling_from s (filled []) 0 n from
-    fill_turn k ek m e =
-        rw ek
-        (ap (λ (k : ℕ). filling (set out i m.component) k (parse (list (n - (i + 1)) blank_component component) (bits_of s) (m.next * 8))) (add-one i)
+    pub fill_turn : (m : Field SegmentationComponent ℕ) → parse component (bits_of s) (c * 8) ≡ got m.value (m.next * 8)
+        → filling_from s (set out i m.value) (i + 1) (n - (i + 1)) m.next ≡ filling_from s (filled []) 0 n from
+    fill_turn m e =
+        ap (λ (k : ℕ). filling (set out i m.value) k (parse (list (n - (i + 1)) blank_component component) (bits_of s) (m.next * 8))) (add-one i)
         ∙ sym
-        (ap (filling out i) (list_turn (n - (i + 1)) blank_component component (bits_of s) (c * 8) m.component (m.next * 8) e)
-        ∙ filling_onward (bits_of s) out i m.component _)
-        ∙ sym left_at ∙ inv)
+        (ap (filling out i) (list_turn (n - (i + 1)) blank_component component (bits_of s) (c * 8) m.value (m.next * 8) e)
+        ∙ filling_onward (bits_of s) out i m.value _)
+        ∙ sym left_at ∙ inv
 
     pub fill_short : (x : Short) → parse component (bits_of s) (c * 8) ≡ short x.expected x.actual → filled [] ≡ filling_from s (filled []) 0 n from
     unfolding filling
@@ -232,7 +227,7 @@ module _ (s : List ℕ) where
               beside all (eall ∙ filled_is n (bits_of s) 56 _ t.0 (omega arith) t.1)
 
 -- ---- beside any descriptor
-pub full_is : (tag : ℕ) (id s : List ℕ) (r : DescriptorRead) → r ≡ descriptor_of tag id s → (i : List ℕ) → i ≡ identifier_read r id → (b : Beside) → b ≡ beside_read r s
+pub full_is : (tag : ℕ) (id s : List ℕ) (r : Result Descriptor Refusal) → r ≡ descriptor_of tag id s → (i : List ℕ) → i ≡ identifier_read r id → (b : Beside) → b ≡ beside_read r s
     → record { read = r; identifier = i; beside = b } ≡ full_of tag id s
 unfolding full_of
 full_is tag id s r e i ei b eb = rw (← e, ei, eb)

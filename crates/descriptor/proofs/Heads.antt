@@ -30,11 +30,11 @@ use Rattle.descriptor.specs.Segmentation.{
   head,
   blank_front,
 }
-use Rattle.descriptor.specs.declared.segmentation.DeliveryRestrictionFlags.{DeliveryRestrictionFlags}
 use Rattle.descriptor.specs.declared.segmentation.SegmentationComponent.{SegmentationComponent}
-use Rattle.descriptor.specs.declared.segmentation.SegmentationDuration.{SegmentationDuration}
 use Rattle.descriptor.specs.declared.segmentation.SegmentationMode.{SegmentationMode}
 use Rattle.descriptor.specs.declared.segmentation.SegmentationUpid.{SegmentationUpid}
+use Rattle.std.proofs.Common.{Some, None, Option}
+use Rattle.descriptor.specs.declared.segmentation.DeliveryRestrictions.{DeliveryRestrictions}
 
 module _ (s : List ℕ) where
   -- ---- how many bits each field before it takes
@@ -70,19 +70,19 @@ module _ (s : List ℕ) where
       let w : i.seam ≡ m = cc i.back in
       rw z (omega (arith, components_end (field (bits_of s) at 8) (at + 8) i.inner i.seam i.front))
 
-  pub duration_ends : (b : Bool) (at : ℕ) (y : SegmentationDuration) (m : ℕ) → parse (duration b) (bits_of s) at ≡ got y m → m ≡ at + duration_size y * 8
+  pub duration_ends : (b : Bool) (at : ℕ) (y : Option ℕ) (m : ℕ) → parse (duration b) (bits_of s) at ≡ got y m → m ≡ at + duration_size y * 8
   unfolding duration
   duration_ends true at y m e =
       let e₁ = (reads_number s at 40 _ _ y m e).1 in
-      let z : y ≡ SegmentationDuration.Ticks (field (bits_of s) at 40) = cc e₁ in
+      let z : y ≡ Some (field (bits_of s) at 40) = cc e₁ in
       let w : at + 40 ≡ m = cc e₁ in
       rw z (omega arith)
   duration_ends false at y m e =
-      let z : y ≡ SegmentationDuration.Absent = cc in
+      let z : y ≡ None = cc in
       let w : at ≡ m = cc in
       rw z (omega arith)
 
-  pub delivery_ends : (b : Bool) (at : ℕ) (y : DeliveryRestrictionFlags) (m : ℕ) → parse (delivery_restrictions b) (bits_of s) at ≡ got y m → m ≡ at + 5
+  pub delivery_ends : (b : Bool) (at : ℕ) (y : Option DeliveryRestrictions) (m : ℕ) → parse (delivery_restrictions b) (bits_of s) at ≡ got y m → m ≡ at + 5
   unfolding delivery_restrictions
   delivery_ends true at y m e =
       let e₁ = (reads_ones s at 5 _ y m e).1 in
@@ -166,14 +166,14 @@ module _ (s : List ℕ) (bytes : (k : ℕ) → get_or s k 0 < 256) where
       let n : field (bits_of s) at 8 ≡ get_or s 6 0 = ap (λ (k : ℕ). field (bits_of s) k 8) h ∙ byte_field s 6 (omega (arith, i₀.0)) (bytes 6) in
       rw (z, n)
 
-  duration_size_lem : (b : Bool) (at : ℕ) (y : SegmentationDuration) (m : ℕ) → parse (duration b) (bits_of s) at ≡ got y m → duration_size y ≡ pick b 5 0
+  duration_size_lem : (b : Bool) (at : ℕ) (y : Option ℕ) (m : ℕ) → parse (duration b) (bits_of s) at ≡ got y m → duration_size y ≡ pick b 5 0
   unfolding duration
   duration_size_lem true at y m e =
       let e₁ = (reads_number s at 40 _ _ y m e).1 in
-      let z : y ≡ SegmentationDuration.Ticks (field (bits_of s) at 40) = cc e₁ in
+      let z : y ≡ Some (field (bits_of s) at 40) = cc e₁ in
       rw z
   duration_size_lem false at y m e =
-      let z : y ≡ SegmentationDuration.Absent = cc in
+      let z : y ≡ None = cc in
       rw z
 
   parts_told : (p l g : Bool) → eqb (get_or s 5 0 / 128 % 2) 1 ≡ p → eqb (get_or s 5 0 / 64 % 2) 1 ≡ l → (x : ListedFront) (m : ℕ) → parse (parts p l g) (bits_of s) 43 ≡ got x m → Placed x

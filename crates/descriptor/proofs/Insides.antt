@@ -18,7 +18,6 @@ use Rattle.upid.specs.Cover.{All, none, more}
 use Rattle.upid.specs.Upid.{check_of}
 use Rattle.upid.specs.declared.Refusal.{Refusal}
 use Rattle.upid.specs.declared.Refusal.TheVariants.{InputTooLong, NotEnoughData, UpidLengthTypeMismatch, InvalidUpidContent, InvalidUpidLength}
-use Rattle.upid.specs.declared.UpidRead.{UpidRead}
 use Rattle.upid.proofs.Theorems.{view_of_24_lies_inside}
 use Rattle.descriptor.specs.Descriptor.{
   ◌and_then◌,
@@ -40,11 +39,11 @@ use Rattle.descriptor.specs.Segmentation.{ListedFront, blank_upid, delivery_rest
 use Rattle.descriptor.specs.Views.{without_view, upid_views, refusal_views}
 use Rattle.descriptor.specs.Private.{read_views}
 use Rattle.descriptor.specs.declared.Descriptor.TheVariants.{Avail, Dtmf, Time}
-use Rattle.descriptor.specs.declared.DescriptorRead.{DescriptorRead}
-use Rattle.descriptor.specs.declared.DescriptorRead.TheVariants.{Is, Refused}
 use Rattle.descriptor.specs.declared.plain.DTMFDescriptor.{DTMFDescriptor}
 use Rattle.descriptor.specs.declared.segmentation.SegmentationUpid.{SegmentationUpid}
 use Rattle.descriptor.proofs.Plains.{reserved_is}
+use Rattle.std.proofs.Common.{Ok, Err, Result}
+use Rattle.descriptor.specs.declared.Descriptor.{Descriptor}
 
 -- ---- a run that was read is there
 reads_part : {X : Type 0} (s : List ℕ) (at n : ℕ) (q : X → View) (k : View → Table X) (y : X) (m : ℕ) → parse (inside (part n) q k) (bits_of s) at ≡ got y m
@@ -102,14 +101,14 @@ front_inside s at x m e =
     parts_inside s _ _ _ (at + 1 + 1 + 1) x m e₃
 
 -- ---- the views of what is made of them
-abbrev AllInside : List ℕ → DescriptorRead → Type 0
+abbrev AllInside : List ℕ → Result Descriptor Refusal → Type 0
 AllInside s r = All (Inside s) (read_views r)
 
-then_inside : {X : Type 0} (s : List ℕ) (r : Answer X) (k : X → ℕ → DescriptorRead) → ((x : X) (m : ℕ) → r ≡ got x m → AllInside s (k x m)) → AllInside s (r and_then k)
+then_inside : {X : Type 0} (s : List ℕ) (r : Answer X) (k : X → ℕ → Result Descriptor Refusal) → ((x : X) (m : ℕ) → r ≡ got x m → AllInside s (k x m)) → AllInside s (r and_then k)
 then_inside s (got x m) k f = f x m refl
 then_inside s (short e a) k f = none
 
-pick_inside : (s : List ℕ) (b : Bool) (x y : DescriptorRead) → AllInside s x → AllInside s y → AllInside s (pick b x y)
+pick_inside : (s : List ℕ) (b : Bool) (x y : Result Descriptor Refusal) → AllInside s x → AllInside s y → AllInside s (pick b x y)
 pick_inside s true x y f g = f
 pick_inside s false x y f g = g
 
@@ -121,17 +120,17 @@ reported_inside : (s : List ℕ) (v : View) (b : Bool) → Inside s v → All (I
 reported_inside s v true h = none
 reported_inside s v false h = more h none
 
-refusal_inside : (s : List ℕ) (v : View) (k : ℕ) (r : Refusal) → Inside s v → check_of k (viewed s v) ≡ UpidRead.Refused r → All (Inside s) (refusal_views (moved_refusal v.at r))
+refusal_inside : (s : List ℕ) (v : View) (k : ℕ) (r : Refusal) → Inside s v → check_of k (viewed s v) ≡ Err r → All (Inside s) (refusal_views (moved_refusal v.at r))
 refusal_inside s v k InputTooLong h e = none
 refusal_inside s v k (NotEnoughData x a) h e = none
 refusal_inside s v k UpidLengthTypeMismatch h e = none
 refusal_inside s v k (InvalidUpidContent q t) h e = more {x = record { at = v.at + t.at; len = t.len }} (omega (arith, view_of_24_lies_inside k (viewed s v) q t e, viewed_length s v h)) none
 refusal_inside s v k (InvalidUpidLength q x a) h e = none
 
-fine_inside : (s : List ℕ) (v : View) (k : ℕ) (a : UpidRead) (f : SegmentationUpid → DescriptorRead) → Inside s v → check_of k (viewed s v) ≡ a
+fine_inside : (s : List ℕ) (v : View) (k : ℕ) (a : Result ℕ Refusal) (f : SegmentationUpid → Result Descriptor Refusal) → Inside s v → check_of k (viewed s v) ≡ a
     → ((u : SegmentationUpid) → All (Inside s) (upid_views u) → AllInside s (f u)) → AllInside s (if_fine a v f)
-fine_inside s v k (UpidRead.Fine q) f h e g = g (reported_upid q v) (reported_inside s v (without_view q) h)
-fine_inside s v k (UpidRead.Refused r) f h e g = refusal_inside s v k r h e
+fine_inside s v k (Ok q) f h e g = g (reported_upid q v) (reported_inside s v (without_view q) h)
+fine_inside s v k (Err r) f h e g = refusal_inside s v k r h e
 
 active_inside : (s : List ℕ) (event at : ℕ) → AllInside s (active_of s event at)
 unfolding active_of active_with
@@ -152,18 +151,18 @@ reserved_inside tag s =
 avail_inside : (s : List ℕ) → AllInside s (avail_of s)
 unfolding avail_of
 avail_inside s =
-    pick_inside s (ltb (length s) 4) (Refused (NotEnoughData 4 (length s))) (parse avail (bits_of s) 0 and_then λ x at. Is (Avail x)) none
-    (then_inside s (parse avail (bits_of s) 0) (λ x at. Is (Avail x)) λ x m e. none)
+    pick_inside s (ltb (length s) 4) (Err (NotEnoughData 4 (length s))) (parse avail (bits_of s) 0 and_then λ x at. Ok (Avail x)) none
+    (then_inside s (parse avail (bits_of s) 0) (λ x at. Ok (Avail x)) λ x m e. none)
 
 time_inside : (s : List ℕ) → AllInside s (time_of s)
 unfolding time_of
 time_inside s =
-    pick_inside s (ltb (length s) 12) (Refused (NotEnoughData 12 (length s))) (parse time (bits_of s) 0 and_then λ x at. Is (Time x)) none
-    (then_inside s (parse time (bits_of s) 0) (λ x at. Is (Time x)) λ x m e. none)
+    pick_inside s (ltb (length s) 12) (Err (NotEnoughData 12 (length s))) (parse time (bits_of s) 0 and_then λ x at. Ok (Time x)) none
+    (then_inside s (parse time (bits_of s) 0) (λ x at. Ok (Time x)) λ x m e. none)
 
 characters_inside : (s : List ℕ) → AllInside s (dtmf_of s)
 unfolding dtmf_of
-characters_inside s = then_inside s (parse dtmf (bits_of s) 0) (λ x at. Is (Dtmf x)) λ x m e. more (dtmf_inside s x m e) none
+characters_inside s = then_inside s (parse dtmf (bits_of s) 0) (λ x at. Ok (Dtmf x)) λ x m e. more (dtmf_inside s x m e) none
 
 -- the views of whatever is read lie in the payload
 pub read_inside : (tag : ℕ) (identifier payload : List ℕ) → All (λ (v : View). v.at + v.len ≤ length payload) (read_views (descriptor_of tag identifier payload))

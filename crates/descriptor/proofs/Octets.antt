@@ -9,9 +9,8 @@ use Rattle.table.specs.Bits.{bits_of, field}
 use Rattle.table.specs.Cursor.{place, cursor_at, taken_of}
 use Rattle.table.specs.Table.{Table, done, number, uimsbf, Answer, got, short, parse}
 use Rattle.table.specs.declared.cursor.Cursor.{Cursor}
-use Rattle.table.specs.declared.cursor.Number.{Number}
+use Rattle.table.specs.declared.cursor.Field.{Field}
 use Rattle.table.specs.declared.cursor.Short.{Short}
-use Rattle.table.specs.declared.cursor.Taken.{Taken}
 use Rattle.table.proofs.Fields.{byte_field, field_byte}
 use Rattle.table.proofs.Laws.{field_there}
 use Rattle.table.proofs.Lists.{zero_one}
@@ -19,8 +18,7 @@ use Rattle.table.proofs.Reading.{field_lt}
 use Rattle.table.proofs.Steppings.{place_of, settled_at, Settled, taken_got, taken_lacks}
 use Rattle.table.proofs.Steps.{takes_in, lacks_in}
 use Rattle.descriptor.specs.Private.{octet_of}
-use Rattle.descriptor.specs.declared.octet.Octet.{Octet}
-use Rattle.descriptor.specs.declared.octet.Small.{Small}
+use Rattle.std.proofs.Common.{Ok, Err}
 
 -- the first bit
 pub place_start : place (record { byte = 0; bit = 0 }) ≡ 0
@@ -58,27 +56,27 @@ below s at w v m e =
     let z : field (bits_of s) at w ≡ v = cc in
     rw (← z) (field_lt s at w)
 
-pub taken_below : (s : List ℕ) (at w : ℕ) (n : Number) → w ≤ 64 → Taken.Got n ≡ taken_of (parse (number w) (bits_of s) at) → n.value < 2 ^ w
+pub taken_below : (s : List ℕ) (at w : ℕ) (n : Field ℕ Cursor) → w ≤ 64 → Ok n ≡ taken_of (parse (number w) (bits_of s) at) → n.value < 2 ^ w
 taken_below s at w n h e = below s at w n.value _ (taken_got s w at n h e).0
 
 -- so eight bits hold one of at most eight
-pub fits_octet : (s : List ℕ) (at w : ℕ) (n : Number) → w ≤ 8 → Taken.Got n ≡ taken_of (parse (number w) (bits_of s) at) → n.value < 256
+pub fits_octet : (s : List ℕ) (at w : ℕ) (n : Field ℕ Cursor) → w ≤ 8 → Ok n ≡ taken_of (parse (number w) (bits_of s) at) → n.value < 256
 fits_octet s at w n h e =
     let m : 2 ^ w ≤ 2 ^ 8 = pow_mono h in
     omega (arith, taken_below s at w n (omega arith) e)
 
 -- ---- the answer of `take_octet`
-pub octet_is : (s : List ℕ) (at w : ℕ) (n : Number) → w ≤ 8 → Taken.Got n ≡ taken_of (parse (number w) (bits_of s) at)
-    → Octet.Got (record { value = n.value; next = n.next }) ≡ octet_of (parse (number w) (bits_of s) at)
+pub octet_is : (s : List ℕ) (at w : ℕ) (n : Field ℕ Cursor) → w ≤ 8 → Ok n ≡ taken_of (parse (number w) (bits_of s) at)
+    → Ok (record { value = n.value; next = n.next }) ≡ octet_of (parse (number w) (bits_of s) at)
 unfolding octet_of
 octet_is s at w n h e = let i = taken_got s w at n (omega arith) e in rw (i.0, i.1)
 
-pub octet_none : (r : Answer ℕ) (x : Short) → Taken.Lacks x ≡ taken_of r → Octet.Lacks x ≡ octet_of r
+pub octet_none : (r : Answer ℕ) (x : Short) → Err x ≡ taken_of r → Err x ≡ octet_of r
 unfolding octet_of
 octet_none r x e = rw (taken_lacks r x e)
 
 -- ---- what it says
-pub octet_got : (r : Answer ℕ) (y : Small) → Octet.Got y ≡ octet_of r → (r ≡ got y.value (place y.next)) × Settled y.next
+pub octet_got : (r : Answer ℕ) (y : Field ℕ Cursor) → Ok y ≡ octet_of r → (r ≡ got y.value (place y.next)) × Settled y.next
 unfolding octet_of
 octet_got (got v m) y e =
     let x : y.value ≡ v = cc in
@@ -86,14 +84,14 @@ octet_got (got v m) y e =
     placed x c
 octet_got (short x a) y e = zero_one cc
 
-pub octet_lacks : (r : Answer ℕ) (x : Short) → Octet.Lacks x ≡ octet_of r → r ≡ short x.expected x.actual
+pub octet_lacks : (r : Answer ℕ) (x : Short) → Err x ≡ octet_of r → r ≡ short x.expected x.actual
 unfolding octet_of
 octet_lacks (got v m) x e = zero_one cc
 octet_lacks (short y a) x e = cc
 
 module _ {X : Type 0} (s : List ℕ) (at : ℕ) (w : ℕ) (p : X → ℕ) (k : ℕ → Table X) where
-  pub goes_octet : (n : Small) → Octet.Got n ≡ octet_of (parse (number w) (bits_of s) at) → parse (uimsbf w p k) (bits_of s) at ≡ parse (k n.value) (bits_of s) (place n.next)
+  pub goes_octet : (n : Field ℕ Cursor) → Ok n ≡ octet_of (parse (number w) (bits_of s) at) → parse (uimsbf w p k) (bits_of s) at ≡ parse (k n.value) (bits_of s) (place n.next)
   goes_octet n e = takes_in (number w) p k (bits_of s) at n.value (place n.next) (octet_got _ n e).0
 
-  pub stops_octet : (x : Short) → Octet.Lacks x ≡ octet_of (parse (number w) (bits_of s) at) → parse (uimsbf w p k) (bits_of s) at ≡ short x.expected x.actual
+  pub stops_octet : (x : Short) → Err x ≡ octet_of (parse (number w) (bits_of s) at) → parse (uimsbf w p k) (bits_of s) at ≡ short x.expected x.actual
   stops_octet x e = lacks_in (number w) p k (bits_of s) at x.expected x.actual (octet_lacks _ x e)

@@ -16,10 +16,10 @@ use Rattle.table.proofs.Fields.{byte_field, field_in}
 use Rattle.table.proofs.Steps.{onward, takes_in, lacks_in, takes_number, lacks_number, takes_flag, takes_ones, lacks_ones, takes_part, lacks_part, list_turn, list_short, list_none, parse_bound}
 use Rattle.descriptor.specs.Segmentation.{device_of, delivery_restrictions, component, blank_component, mode, duration, written_upid}
 use Rattle.descriptor.specs.Private.{restrictions_in, lacked_of}
-use Rattle.descriptor.specs.declared.segmentation.DeliveryRestrictionFlags.{DeliveryRestrictionFlags}
 use Rattle.descriptor.specs.declared.segmentation.SegmentationComponent.{SegmentationComponent}
-use Rattle.descriptor.specs.declared.segmentation.SegmentationDuration.{SegmentationDuration}
 use Rattle.descriptor.specs.declared.segmentation.SegmentationMode.{SegmentationMode}
+use Rattle.std.proofs.Common.{Some, None, Option}
+use Rattle.descriptor.specs.declared.segmentation.DeliveryRestrictions.{DeliveryRestrictions}
 
 -- what an answer says, said of what it is matched with
 pub told : {A R : Type 0} (P : A → R → Type 0) (a b : A) (r : R) → a ≡ b → P a r → P b r
@@ -38,19 +38,19 @@ module _ (s : List ℕ) (i : ℕ) (there : i < length s) (byte : get_or s i 0 < 
   last_two : (p : ℕ) → p ≡ i * 8 + 6 → get_or s i 0 % 4 ≡ field (bits_of s) p 2
   last_two p e = sym (ap (λ (x : ℕ). field (bits_of s) x 2) e ∙ field_in s i there byte 6 2 0 refl ∙ ap (λ (x : ℕ). x % 4) (div-one (get_or s i 0)))
 
-  abbrev limits : DeliveryRestrictionFlags
-  limits = DeliveryRestrictionFlags.DeliveryRestrictions (record {
+  abbrev limits : Option DeliveryRestrictions
+  limits = Some (record {
     web_delivery_allowed_flag = eqb (get_or s i 0 / 16 % 2) 1;
     no_regional_blackout_flag = eqb (get_or s i 0 / 8 % 2) 1;
     archive_allowed_flag = eqb (get_or s i 0 / 4 % 2) 1;
     device_restrictions = device_of (get_or s i 0 % 4);
   })
 
-  by_third : (b : Bool) → parse (delivery_restrictions b) (bits_of s) (i * 8 + 3) ≡ got (pick b DeliveryRestrictionFlags.None limits) ((i + 1) * 8)
+  by_third : (b : Bool) → parse (delivery_restrictions b) (bits_of s) (i * 8 + 3) ≡ got (pick b None limits) ((i + 1) * 8)
   unfolding delivery_restrictions
   by_third true =
       let z : i * 8 + 3 + 5 ≡ (i + 1) * 8 = omega arith in
-      takes_ones s (i * 8 + 3) 5 _ (omega arith) ∙ ap (got DeliveryRestrictionFlags.None) z
+      takes_ones s (i * 8 + 3) 5 _ (omega arith) ∙ ap (got None) z
   by_third false =
       let z : i * 8 + 3 + 1 + 1 + 1 + 2 ≡ (i + 1) * 8 = omega arith in
       takes_flag s (i * 8 + 3) (eqb (get_or s i 0 / 16 % 2) 1) _ _ (omega arith) (bit_at (i * 8 + 3) 3 4 refl refl)
@@ -195,13 +195,13 @@ module _ (s : List ℕ) (i : ℕ) (b : Bool) where
       let z : (length s * 8 - i * 8) / 8 ≡ n = omega arith in
       rw on (lacks_number s (i * 8) 40 _ _ (omega arith) ∙ ap (short 5) z)
 
-  pub lasts : b ≡ true → (v : ℕ) → v ≡ field (bits_of s) (i * 8) 40 → i + 5 ≤ length s → parse (duration b) (bits_of s) (i * 8) ≡ got (SegmentationDuration.Ticks v) ((i + 5) * 8)
+  pub lasts : b ≡ true → (v : ℕ) → v ≡ field (bits_of s) (i * 8) 40 → i + 5 ≤ length s → parse (duration b) (bits_of s) (i * 8) ≡ got (Some v) ((i + 5) * 8)
   unfolding duration
   lasts on v e h =
       let z : i * 8 + 40 ≡ (i + 5) * 8 = omega arith in
-      rw on (takes_number s (i * 8) 40 v _ _ (omega arith) e ∙ ap (got (SegmentationDuration.Ticks v)) z)
+      rw on (takes_number s (i * 8) 40 v _ _ (omega arith) e ∙ ap (got (Some v)) z)
 
-  pub no_duration : b ≡ false → parse (duration b) (bits_of s) (i * 8) ≡ got SegmentationDuration.Absent (i * 8)
+  pub no_duration : b ≡ false → parse (duration b) (bits_of s) (i * 8) ≡ got None (i * 8)
   unfolding duration
   no_duration off = rw off
 

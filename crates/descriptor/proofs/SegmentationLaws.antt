@@ -17,16 +17,16 @@ use Rattle.table.proofs.Telling.{Each}
 use Rattle.descriptor.specs.Segmentation.{device_of, delivery_restrictions, component, blank_component, count_of, mode, mode_size, duration, duration_size, written_upid, ListedFront, parts, front, sub_bytes, sub_segments, back, Head, head, front_of, back_of, active_from, Segmentation, segmentation, agrees, by_program, lasting, unrestricted, writable_front, writable_detail}
 use Rattle.descriptor.specs.declared.back.Back.{Back}
 use Rattle.descriptor.specs.declared.front.Front.{Front}
-use Rattle.descriptor.specs.declared.segmentation.DeliveryRestrictionFlags.{DeliveryRestrictionFlags}
 use Rattle.descriptor.specs.declared.segmentation.SegmentationComponent.{SegmentationComponent}
 use Rattle.descriptor.specs.declared.segmentation.DescriptorDetail.{DescriptorDetail}
 use Rattle.descriptor.specs.declared.segmentation.DescriptorDetail.TheVariants.{Cancel, Active}
-use Rattle.descriptor.specs.declared.segmentation.SegmentationDuration.{SegmentationDuration}
 use Rattle.descriptor.specs.declared.segmentation.SegmentationMode.{SegmentationMode}
 use Rattle.descriptor.specs.declared.segmentation.SegmentationUpid.{SegmentationUpid}
-use Rattle.descriptor.specs.declared.segmentation.SubSegments.{SubSegments}
 use Rattle.descriptor.proofs.SegmentationTells.{segmentation_tells}
 use Rattle.descriptor.proofs.Structures.{RoundTrips, round_trips}
+use Rattle.std.proofs.Common.{Some, None, Option}
+use Rattle.descriptor.specs.declared.segmentation.DeliveryRestrictions.{DeliveryRestrictions}
+use Rattle.descriptor.specs.declared.segmentation.SubSegment.{SubSegment}
 
 -- ---- each part's own fields lead to it
 device_back : (d : DeviceRestrictions) → device_of (restrictions_bits d) ≡ d
@@ -36,15 +36,15 @@ device_back DeviceRestrictions.RestrictGroup1 = refl
 device_back DeviceRestrictions.RestrictGroup2 = refl
 device_back DeviceRestrictions.None = refl
 
-delivery_leads : (x : DeliveryRestrictionFlags) (at m : ℕ) → Leads (delivery_restrictions (unrestricted x)) x x at (at + 5) m
+delivery_leads : (x : Option DeliveryRestrictions) (at m : ℕ) → Leads (delivery_restrictions (unrestricted x)) x x at (at + 5) m
 unfolding delivery_restrictions
-delivery_leads DeliveryRestrictionFlags.None at m = leads_ones 5 _ _ _ at _ m (leads_done DeliveryRestrictionFlags.None _ _ _ _ m refl refl)
-delivery_leads (DeliveryRestrictionFlags.DeliveryRestrictions r) at m =
+delivery_leads None at m = leads_ones 5 _ _ _ at _ m (leads_done None _ _ _ _ m refl refl)
+delivery_leads (Some r) at m =
     leads_flag _ _ _ _ at _ m
     (leads_flag _ _ _ _ (at + 1) _ m
     (leads_flag _ _ _ _ (at + 1 + 1) _ m
     (leads_number 2 _ _ _ _ (at + 1 + 1 + 1) _ m
-    (leads_done (DeliveryRestrictionFlags.DeliveryRestrictions r) _ _ _ _ m (rw (device_back r.device_restrictions)) (omega arith)))))
+    (leads_done (Some r) _ _ _ _ m (rw (device_back r.device_restrictions)) (omega arith)))))
 
 component_leads : (x : SegmentationComponent) (at m : ℕ) → Leads component x x at (at + 48) m
 unfolding component
@@ -77,10 +77,10 @@ mode_leads (SegmentationMode.Component n) cs at m e =
     (components_lead cs (at + 8) _)
     (leads_done (record { mode = SegmentationMode.Component (length cs); components = cs }) _ _ _ _ m refl (omega arith))))
 
-duration_leads : (x : SegmentationDuration) (at m : ℕ) → Leads (duration (lasting x)) x x at (at + duration_size x * 8) m
+duration_leads : (x : Option ℕ) (at m : ℕ) → Leads (duration (lasting x)) x x at (at + duration_size x * 8) m
 unfolding duration
-duration_leads SegmentationDuration.Absent at m = leads_done SegmentationDuration.Absent _ _ _ _ m refl (omega arith)
-duration_leads (SegmentationDuration.Ticks t) at m = leads_number 40 _ _ _ _ at _ m (leads_done (SegmentationDuration.Ticks t) _ _ _ _ m refl (omega arith))
+duration_leads None at m = leads_done None _ _ _ _ m refl (omega arith)
+duration_leads (Some t) at m = leads_number 40 _ _ _ _ at _ m (leads_done (Some t) _ _ _ _ m refl (omega arith))
 
 -- a UPID at a new place
 abbrev pub upid_at : ℕ → SegmentationUpid → SegmentationUpid
@@ -94,14 +94,14 @@ upid_leads u at m =
     (leads_part u.bytes.len _ _ _ _ (at + 8 + 8) _ m
     (leads_done u _ _ _ _ m refl (omega arith))))
 
-sub_leads : (x : SubSegments) (at m : ℕ) → m ≡ 0 → Leads sub_segments x x at (at + sub_bytes x * 8) m
+sub_leads : (x : Option SubSegment) (at m : ℕ) → m ≡ 0 → Leads sub_segments x x at (at + sub_bytes x * 8) m
 unfolding sub_segments
-sub_leads SubSegments.Absent at m e = leads_remaining _ _ _ _ at _ m (let z : 0 ≡ (at + 0 * 8 + m - at) / 8 = omega arith in z) (leads_done SubSegments.Absent _ _ _ _ m refl (omega arith))
-sub_leads (SubSegments.Is x) at m e =
+sub_leads None at m e = leads_remaining _ _ _ _ at _ m (let z : 0 ≡ (at + 0 * 8 + m - at) / 8 = omega arith in z) (leads_done None _ _ _ _ m refl (omega arith))
+sub_leads (Some x) at m e =
     leads_remaining _ _ _ _ at _ m (let z : 2 ≡ (at + 2 * 8 + m - at) / 8 = omega arith in z)
     (leads_number 8 _ _ _ _ at _ m
     (leads_number 8 _ _ _ _ (at + 8) _ m
-    (leads_done (SubSegments.Is x) _ _ _ _ m refl (omega arith))))
+    (leads_done (Some x) _ _ _ _ m refl (omega arith))))
 
 back_leads : (x : Back) (at m : ℕ) → writable_segmentation x.segmentation_type_id ≡ true → m ≡ 0 → Leads back x x at (at + (3 + sub_bytes x.sub_segments) * 8) m
 unfolding back

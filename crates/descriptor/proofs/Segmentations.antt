@@ -17,23 +17,20 @@ use Rattle.table.proofs.Lists.{zero_one}
 use Rattle.table.proofs.Steps.{takes_in, lacks_in, reads_flag, takes_number, lacks_number, takes_flag, lacks_flag, takes_ones}
 use Rattle.upid.specs.Upid.{check_of}
 use Rattle.upid.specs.declared.Refusal.{Refusal}
-use Rattle.upid.specs.declared.UpidRead.{UpidRead}
 use Rattle.upid.proofs.Theorems.{view_of_24_lies_inside}
 use Rattle.descriptor.specs.Descriptor.{moved_refusal, reported_upid, if_fine, active_with, active_of, segmentation_of, ◌and_then◌}
 use Rattle.descriptor.specs.Segmentation.{Moded, ListedFront, Head, delivery_restrictions, mode, duration, written_upid, parts, front, back, head}
 use Rattle.descriptor.specs.Private.{lacking, restrictions_in, upid_answer, upid_checked}
 use Rattle.descriptor.specs.declared.Descriptor.TheVariants.{Segmentation}
-use Rattle.descriptor.specs.declared.DescriptorRead.{DescriptorRead}
-use Rattle.descriptor.specs.declared.DescriptorRead.TheVariants.{Is, Refused}
 use Rattle.descriptor.specs.declared.back.Back.{Back}
 use Rattle.descriptor.specs.declared.front.Front.{Front}
-use Rattle.descriptor.specs.declared.segmentation.DeliveryRestrictionFlags.{DeliveryRestrictionFlags}
 use Rattle.descriptor.specs.declared.segmentation.SegmentationComponent.{SegmentationComponent}
 use Rattle.descriptor.specs.declared.segmentation.DescriptorDetail.TheVariants.{Cancel}
-use Rattle.descriptor.specs.declared.segmentation.SegmentationDuration.{SegmentationDuration}
 use Rattle.descriptor.specs.declared.segmentation.SegmentationUpid.{SegmentationUpid}
-use Rattle.descriptor.specs.declared.segmentation.UpidChecked.{UpidChecked}
 use Rattle.descriptor.proofs.Parts.{ends_inside, bit_at, restrictions_there}
+use Rattle.std.proofs.Common.{Ok, Err, Option, Result}
+use Rattle.descriptor.specs.declared.Descriptor.{Descriptor}
+use Rattle.descriptor.specs.declared.segmentation.DeliveryRestrictions.{DeliveryRestrictions}
 
 -- ---- from the flags, which are byte i, to the UPID
 pub no_flags : (s : List ℕ) (i : ℕ) → length s ≤ i → parse front (bits_of s) (i * 8) ≡ short 0 0
@@ -75,7 +72,7 @@ module _ (s : List ℕ) (i : ℕ) (there : i < length s) (byte : get_or s i 0 < 
         ∙ takes_in (mode program) _ _ (bits_of s) ((i + 1) * 8) m j em
         ∙ lacks_in (duration lasting) _ _ (bits_of s) j x a e
 
-    module _ (d : SegmentationDuration) (k : ℕ) (ed : parse (duration lasting) (bits_of s) j ≡ got d k) where
+    module _ (d : Option ℕ) (k : ℕ) (ed : parse (duration lasting) (bits_of s) j ≡ got d k) where
       pub no_upid : (x a : ℕ) → parse written_upid (bits_of s) k ≡ short x a → parse front (bits_of s) (i * 8) ≡ short x a
       unfolding parts
       no_upid x a e =
@@ -84,7 +81,7 @@ module _ (s : List ℕ) (i : ℕ) (there : i < length s) (byte : get_or s i 0 < 
           ∙ takes_in (duration lasting) _ _ (bits_of s) j d k ed
           ∙ lacks_in written_upid _ _ (bits_of s) k x a e
 
-      pub front_is : (r : DeliveryRestrictionFlags) → r ≡ restrictions_in (get_or s i 0) → (u : SegmentationUpid) (l : ℕ) → parse written_upid (bits_of s) k ≡ got u l
+      pub front_is : (r : Option DeliveryRestrictions) → r ≡ restrictions_in (get_or s i 0) → (u : SegmentationUpid) (l : ℕ) → parse written_upid (bits_of s) k ≡ got u l
           → parse front (bits_of s) (i * 8) ≡ got (record {
             front = record {
               program_segmentation_flag = program;
@@ -113,19 +110,19 @@ front_inside s i n x e =
     ends_inside front s i n x (omega arith) e
 
 -- ---- a UPID that is checked
-module _ (s : List ℕ) (u : SegmentationUpid) (b : List ℕ) (a : UpidRead) (eb : b ≡ viewed s u.bytes) (ea : a ≡ check_of u.upid_type b) where
+module _ (s : List ℕ) (u : SegmentationUpid) (b : List ℕ) (a : Result ℕ Refusal) (eb : b ≡ viewed s u.bytes) (ea : a ≡ check_of u.upid_type b) where
   answered : upid_checked s u ≡ upid_answer a u.bytes
   unfolding upid_checked
   answered = rw (← eb, ← ea)
 
-  pub upid_fine : (k : ℕ) (v : SegmentationUpid) → a ≡ UpidRead.Fine k → v ≡ reported_upid k u.bytes → UpidChecked.Is v ≡ upid_checked s u
+  pub upid_fine : (k : ℕ) (v : SegmentationUpid) → a ≡ Ok k → v ≡ reported_upid k u.bytes → Ok v ≡ upid_checked s u
   upid_fine k v e ev = rw ev (sym (answered ∙ ap (λ x. upid_answer x u.bytes) e))
 
-  pub upid_refused_lem : (r q : Refusal) → a ≡ UpidRead.Refused r → q ≡ moved_refusal u.bytes.at r → UpidChecked.Refused q ≡ upid_checked s u
+  pub upid_refused_lem : (r q : Refusal) → a ≡ Err r → q ≡ moved_refusal u.bytes.at r → Err q ≡ upid_checked s u
   upid_refused_lem r q e eq = rw eq (sym (answered ∙ ap (λ x. upid_answer x u.bytes) e))
 
   -- its text lies in the payload
-  pub text_fits : (k : ℕ) (t : View) → a ≡ UpidRead.Refused (Refusal.InvalidUpidContent k t) → u.bytes.at + t.at ≤ length s
+  pub text_fits : (k : ℕ) (t : View) → a ≡ Err (Refusal.InvalidUpidContent k t) → u.bytes.at + t.at ≤ length s
   unfolding viewed check_of
   text_fits k t e =
       text (leb (u.bytes.at + u.bytes.len) (length s)) refl (eb ∙ viewing)
@@ -137,19 +134,19 @@ module _ (s : List ℕ) (u : SegmentationUpid) (b : List ℕ) (a : UpidRead) (eb
       inside = view_of_24_lies_inside u.upid_type b k t (sym ea ∙ e)
 
       none : b ≡ [] → ⊥
-      none z = let w : UpidRead.Refused (Refusal.InvalidUpidContent k t) ≡ UpidRead.Fine 0 = sym e ∙ ea ∙ ap (check_of u.upid_type) z in zero_one cc
+      none z = let w : Err (Refusal.InvalidUpidContent k t) ≡ Ok 0 = sym e ∙ ea ∙ ap (check_of u.upid_type) z in zero_one cc
 
       text : (x : Bool) → leb (u.bytes.at + u.bytes.len) (length s) ≡ x → b ≡ pick x (take u.bytes.len (drop u.bytes.at s)) [] → u.bytes.at + t.at ≤ length s
       text true h z = omega (arith, inside, ap length z, length-take u.bytes.len (drop u.bytes.at s), leb-true (u.bytes.at + u.bytes.len) (length s) h)
       text false h z = absurd (none z)
 
-checked_is : (a : UpidRead) (v : View) (k : SegmentationUpid → DescriptorRead) (u : SegmentationUpid) → UpidChecked.Is u ≡ upid_answer a v → if_fine a v k ≡ k u
-checked_is (UpidRead.Fine upid_type_number) v k u e = let z : u ≡ reported_upid upid_type_number v = cc in rw z
-checked_is (UpidRead.Refused r) v k u e = zero_one cc
+checked_is : (a : Result ℕ Refusal) (v : View) (k : SegmentationUpid → Result Descriptor Refusal) (u : SegmentationUpid) → Ok u ≡ upid_answer a v → if_fine a v k ≡ k u
+checked_is (Ok upid_type_number) v k u e = let z : u ≡ reported_upid upid_type_number v = cc in rw z
+checked_is (Err r) v k u e = zero_one cc
 
-checked_refused : (a : UpidRead) (v : View) (k : SegmentationUpid → DescriptorRead) (r : Refusal) → UpidChecked.Refused r ≡ upid_answer a v → Refused r ≡ if_fine a v k
-checked_refused (UpidRead.Fine upid_type_number) v k r e = zero_one cc
-checked_refused (UpidRead.Refused q) v k r e = let z : r ≡ moved_refusal v.at q = cc in rw z
+checked_refused : (a : Result ℕ Refusal) (v : View) (k : SegmentationUpid → Result Descriptor Refusal) (r : Refusal) → Err r ≡ upid_answer a v → Err r ≡ if_fine a v k
+checked_refused (Ok upid_type_number) v k r e = zero_one cc
+checked_refused (Err q) v k r e = let z : r ≡ moved_refusal v.at q = cc in rw z
 
 -- ---- what follows the head, step by step
 module _ (s : List ℕ) (event at : ℕ) where
@@ -158,24 +155,24 @@ module _ (s : List ℕ) (event at : ℕ) where
   no_front x e = rw e
 
   module _ (f : Front) (cs : List SegmentationComponent) (j : ℕ) (ef : parse front (bits_of s) at ≡ got (record { front = f; components = cs }) j) where
-    abbrev after : SegmentationUpid → DescriptorRead
+    abbrev after : SegmentationUpid → Result Descriptor Refusal
     after upid = parse back (bits_of s) j and_then λ b at. active_with event f upid b
 
     abbrev bytes : View
     bytes = f.segmentation_upid.bytes
 
-    abbrev verdict : UpidRead
+    abbrev verdict : Result ℕ Refusal
     verdict = check_of f.segmentation_upid.upid_type (viewed s bytes)
 
     fronted : active_of s event at ≡ if_fine verdict bytes after
     unfolding active_of
     fronted = rw ef
 
-    pub bad_upid : (r : Refusal) → UpidChecked.Refused r ≡ upid_checked s f.segmentation_upid → Refused r ≡ active_of s event at
+    pub bad_upid : (r : Refusal) → Err r ≡ upid_checked s f.segmentation_upid → Err r ≡ active_of s event at
     unfolding upid_checked
     bad_upid r e = checked_refused verdict bytes after r e ∙ sym fronted
 
-    module _ (u : SegmentationUpid) (eu : UpidChecked.Is u ≡ upid_checked s f.segmentation_upid) where
+    module _ (u : SegmentationUpid) (eu : Ok u ≡ upid_checked s f.segmentation_upid) where
       checked : active_of s event at ≡ after u
       unfolding upid_checked
       checked = fronted ∙ checked_is verdict bytes after u eu
@@ -215,11 +212,11 @@ module _ (s : List ℕ) where
   no_head x e = rw e
 
   module _ (h : Head) (eh : parse head (bits_of s) 0 ≡ got h 40) where
-    headed : segmentation_of s ≡ pick h.cancel (Is (Segmentation (record { segmentation_event_id = h.event; descriptor_detail = Cancel }))) (active_of s h.event 40)
+    headed : segmentation_of s ≡ pick h.cancel (Ok (Segmentation (record { segmentation_event_id = h.event; descriptor_detail = Cancel }))) (active_of s h.event 40)
     unfolding segmentation_of
     headed = rw eh
 
-    pub cancel_is : h.cancel ≡ true → Is (Segmentation (record { segmentation_event_id = h.event; descriptor_detail = Cancel })) ≡ segmentation_of s
+    pub cancel_is : h.cancel ≡ true → Ok (Segmentation (record { segmentation_event_id = h.event; descriptor_detail = Cancel })) ≡ segmentation_of s
     cancel_is on = sym (headed ∙ rw on)
 
     pub detail_from_lem : h.cancel ≡ false → active_of s h.event 40 ≡ segmentation_of s

@@ -1,5 +1,5 @@
 -- What a descriptor's payload is read as. 01, "Loop items".
-use Rattle.std.specs.Prelude.{ℕ, Bool, ◌&&◌, List, [], ◌∷◌, ltb, eqb, length, get_or}
+use Rattle.std.specs.Prelude.{ℕ, Bool, ◌&&◌, List, [], ◌∷◌, ltb, eqb, length, get_or, Ok, Err, Result}
 use Rattle.table.specs.Bits.{pick, bits_of}
 use Rattle.table.specs.Lent.{no_view, shifted, viewed}
 use Rattle.table.specs.Table.{Answer, got, short, parse}
@@ -7,39 +7,37 @@ use Rattle.table.specs.declared.View.{View}
 use Rattle.upid.specs.Upid.{check_of}
 use Rattle.upid.specs.declared.Refusal.{Refusal}
 use Rattle.upid.specs.declared.Refusal.TheVariants.{InputTooLong, NotEnoughData, UpidLengthTypeMismatch, InvalidUpidContent, InvalidUpidLength}
-use Rattle.upid.specs.declared.UpidRead.{UpidRead}
 use Rattle.descriptor.specs.Plain.{avail, dtmf, time, private_table}
 use Rattle.descriptor.specs.Segmentation.{head, front, back, active_from}
 use Rattle.descriptor.specs.Views.{without_view}
 use Rattle.descriptor.specs.declared.Descriptor.TheVariants.{Avail, Dtmf, Segmentation, Time, Reserved}
-use Rattle.descriptor.specs.declared.DescriptorRead.{DescriptorRead}
-use Rattle.descriptor.specs.declared.DescriptorRead.TheVariants.{Is, Refused}
 use Rattle.descriptor.specs.declared.back.Back.{Back}
 use Rattle.descriptor.specs.declared.front.Front.{Front}
 use Rattle.descriptor.specs.declared.segmentation.DescriptorDetail.TheVariants.{Cancel, Active}
 use Rattle.descriptor.specs.declared.segmentation.SegmentationUpid.{SegmentationUpid}
+use Rattle.descriptor.specs.declared.Descriptor.{Descriptor}
 
 -- what a table reads, and then what is made of it; "the first fault stands"
 infixr 40 ◌and_then◌
-abbrev pub ◌and_then◌ : {X : Type 0} → Answer X → (X → ℕ → DescriptorRead) → DescriptorRead
+abbrev pub ◌and_then◌ : {X : Type 0} → Answer X → (X → ℕ → Result Descriptor Refusal) → Result Descriptor Refusal
 got x at and_then k = k x at
-short expected actual and_then k = Refused (NotEnoughData expected actual)
+short expected actual and_then k = Err (NotEnoughData expected actual)
 
 -- "Shorter: 21 (n, actual)"
-abbrev pub at_least : ℕ → List ℕ → DescriptorRead → DescriptorRead
-at_least n s r = pick (ltb (length s) n) (Refused (NotEnoughData n (length s))) r
+abbrev pub at_least : ℕ → List ℕ → Result Descriptor Refusal → Result Descriptor Refusal
+at_least n s r = pick (ltb (length s) n) (Err (NotEnoughData n (length s))) r
 
-unfoldable pub avail_of : List ℕ → DescriptorRead
-avail_of s = at_least 4 s (parse avail (bits_of s) 0 and_then λ x at. Is (Avail x))
+unfoldable pub avail_of : List ℕ → Result Descriptor Refusal
+avail_of s = at_least 4 s (parse avail (bits_of s) 0 and_then λ x at. Ok (Avail x))
 
-unfoldable pub dtmf_of : List ℕ → DescriptorRead
-dtmf_of s = parse dtmf (bits_of s) 0 and_then λ x at. Is (Dtmf x)
+unfoldable pub dtmf_of : List ℕ → Result Descriptor Refusal
+dtmf_of s = parse dtmf (bits_of s) 0 and_then λ x at. Ok (Dtmf x)
 
-unfoldable pub time_of : List ℕ → DescriptorRead
-time_of s = at_least 12 s (parse time (bits_of s) 0 and_then λ x at. Is (Time x))
+unfoldable pub time_of : List ℕ → Result Descriptor Refusal
+time_of s = at_least 12 s (parse time (bits_of s) 0 and_then λ x at. Ok (Time x))
 
-unfoldable pub reserved_of : ℕ → List ℕ → DescriptorRead
-reserved_of tag s = parse private_table (bits_of s) 0 and_then λ v at. Is (Reserved tag v)
+unfoldable pub reserved_of : ℕ → List ℕ → Result Descriptor Refusal
+reserved_of tag s = parse private_table (bits_of s) 0 and_then λ v at. Ok (Reserved tag v)
 
 -- ---- segmentation: the UPID's own rules stand between the fields up to it and those after it
 
@@ -55,14 +53,14 @@ moved_refusal at (InvalidUpidLength upid_type_number expected actual) = InvalidU
 abbrev pub reported_upid : ℕ → View → SegmentationUpid
 reported_upid upid_type_number bytes = record { upid_type = upid_type_number; bytes = pick (without_view upid_type_number) no_view bytes }
 
-abbrev pub if_fine : UpidRead → View → (SegmentationUpid → DescriptorRead) → DescriptorRead
-if_fine (UpidRead.Fine upid_type_number) bytes k = k (reported_upid upid_type_number bytes)
-if_fine (UpidRead.Refused r) bytes k = Refused (moved_refusal bytes.at r)
+abbrev pub if_fine : Result ℕ Refusal → View → (SegmentationUpid → Result Descriptor Refusal) → Result Descriptor Refusal
+if_fine (Ok upid_type_number) bytes k = k (reported_upid upid_type_number bytes)
+if_fine (Err r) bytes k = Err (moved_refusal bytes.at r)
 
-unfoldable pub active_with : ℕ → Front → SegmentationUpid → Back → DescriptorRead
-active_with event f upid b = Is (Segmentation (record { segmentation_event_id = event; descriptor_detail = Active (active_from f upid b) }))
+unfoldable pub active_with : ℕ → Front → SegmentationUpid → Back → Result Descriptor Refusal
+active_with event f upid b = Ok (Segmentation (record { segmentation_event_id = event; descriptor_detail = Active (active_from f upid b) }))
 
-unfoldable pub active_of : List ℕ → ℕ → ℕ → DescriptorRead
+unfoldable pub active_of : List ℕ → ℕ → ℕ → Result Descriptor Refusal
 active_of s event at =
     parse front (bits_of s) at and_then λ f at.
     let written = f.front.segmentation_upid in
@@ -70,11 +68,11 @@ active_of s event at =
     parse back (bits_of s) at and_then λ b at.
     active_with event f.front upid b
 
-unfoldable pub segmentation_of : List ℕ → DescriptorRead
+unfoldable pub segmentation_of : List ℕ → Result Descriptor Refusal
 segmentation_of s =
     parse head (bits_of s) 0 and_then λ h at.
     pick h.cancel
-    (Is (Segmentation (record { segmentation_event_id = h.event; descriptor_detail = Cancel })))
+    (Ok (Segmentation (record { segmentation_event_id = h.event; descriptor_detail = Cancel })))
     (active_of s h.event at)
 
 -- ---- by identifier and tag
@@ -97,5 +95,5 @@ by_kind tag identifier avail dtmf segmentation time reserved =
     reserved))))
     reserved
 
-unfoldable pub descriptor_of : ℕ → List ℕ → List ℕ → DescriptorRead
+unfoldable pub descriptor_of : ℕ → List ℕ → List ℕ → Result Descriptor Refusal
 descriptor_of tag identifier s = by_kind tag identifier (avail_of s) (dtmf_of s) (segmentation_of s) (time_of s) (reserved_of tag s)

@@ -1,5 +1,5 @@
 -- What stands beside a descriptor. 01, "What must change shape": "arrays stand beside enums, not in them".
-use Rattle.std.specs.Prelude.{ℕ, List, [], replicate}
+use Rattle.std.specs.Prelude.{ℕ, List, [], replicate, Ok, Err, Result}
 use Rattle.table.specs.Bits.{bits_of}
 use Rattle.table.specs.Lent.{filled_to, viewed}
 use Rattle.table.specs.Table.{Answer, got, short, parse}
@@ -9,12 +9,11 @@ use Rattle.descriptor.specs.Segmentation as table
 use Rattle.descriptor.specs.Views.{by_descriptor}
 use Rattle.descriptor.specs.Segmentation.{blank_component, detail_upid, segmentation}
 use Rattle.descriptor.specs.declared.Descriptor.{Descriptor}
-use Rattle.descriptor.specs.declared.DescriptorRead.{DescriptorRead}
-use Rattle.descriptor.specs.declared.DescriptorRead.TheVariants.{Is, Refused}
 use Rattle.descriptor.specs.declared.segmentation.SegmentationComponent.{SegmentationComponent}
 use Rattle.descriptor.specs.declared.segmentation.SegmentationDescriptor.{SegmentationDescriptor}
 use Rattle.descriptor.specs.declared.full.Beside.{Beside}
 use Rattle.descriptor.specs.declared.full.FullDescriptor.{FullDescriptor}
+use Rattle.upid.specs.declared.Refusal.{Refusal}
 
 -- ---- f of one kind of descriptor, and `none` of any other
 abbrev pub of_segmentation : {A : Type 0} → (SegmentationDescriptor → A) → A → Descriptor → A
@@ -42,14 +41,14 @@ unfoldable pub beside_of : List ℕ → Beside
 beside_of s = beside_in s (parse segmentation (bits_of s) 0)
 
 -- ---- beside any descriptor
-abbrev pub beside_read : DescriptorRead → List ℕ → Beside
-beside_read (Is d) s = of_segmentation (λ x. beside_of s) blank_beside d
-beside_read (Refused r) s = blank_beside
+abbrev pub beside_read : Result Descriptor Refusal → List ℕ → Beside
+beside_read (Ok d) s = of_segmentation (λ x. beside_of s) blank_beside d
+beside_read (Err r) s = blank_beside
 
 -- the identifier of a reserved one; the others are "CUEI"
-abbrev pub identifier_read : DescriptorRead → List ℕ → List ℕ
-identifier_read (Is d) id = of_reserved id (replicate 4 0) d
-identifier_read (Refused r) id = replicate 4 0
+abbrev pub identifier_read : Result Descriptor Refusal → List ℕ → List ℕ
+identifier_read (Ok d) id = of_reserved id (replicate 4 0) d
+identifier_read (Err r) id = replicate 4 0
 
 unfoldable pub full_of : ℕ → List ℕ → List ℕ → FullDescriptor
 full_of tag id s =

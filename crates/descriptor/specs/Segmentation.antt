@@ -1,5 +1,5 @@
 -- The payload of a segmentation descriptor. 01, "Loop items". The rules of its UPID are not the table's: here it has the type that is written.
-use Rattle.std.specs.Prelude.{ℕ, ◌+◌, ◌*◌, ◌/◌, ◌%◌, Bool, true, false, not, ◌&&◌, List, [], eqb}
+use Rattle.std.specs.Prelude.{ℕ, ◌+◌, ◌*◌, ◌/◌, ◌%◌, Bool, true, false, not, ◌&&◌, List, [], eqb, Some, None, Option}
 use Rattle.names.specs.Flags.{Answer, gives, refuses, restrictions_bits, restrictions_of}
 use Rattle.names.specs.Segmentation.{segmentation_number, segmentation_type_of, writable_segmentation}
 use Rattle.names.specs.declared.flags.DeviceRestrictions.{DeviceRestrictions}
@@ -8,20 +8,16 @@ use Rattle.table.specs.Lent.{no_view}
 use Rattle.table.specs.Table.{Table, done, must, inside, part, remaining, list, uimsbf, flag, ones}
 use Rattle.descriptor.specs.declared.back.Back.{Back}
 use Rattle.descriptor.specs.declared.front.Front.{Front}
-use Rattle.descriptor.specs.declared.segmentation.DeliveryRestrictionFlags.{DeliveryRestrictionFlags}
 use Rattle.descriptor.specs.declared.segmentation.DeliveryRestrictions.{DeliveryRestrictions}
 use Rattle.descriptor.specs.declared.segmentation.SegmentationComponent.{SegmentationComponent}
 use Rattle.descriptor.specs.declared.segmentation.SegmentationDescriptor.{SegmentationDescriptor}
 use Rattle.descriptor.specs.declared.segmentation.DescriptorDetail.{DescriptorDetail}
 use Rattle.descriptor.specs.declared.segmentation.DescriptorDetail.TheVariants.{Cancel, Active}
-use Rattle.descriptor.specs.declared.segmentation.SegmentationDuration.{SegmentationDuration}
-use Rattle.descriptor.specs.declared.segmentation.SegmentationDuration.TheVariants.{Ticks}
 use Rattle.descriptor.specs.declared.segmentation.SegmentationDetail.{SegmentationDetail}
 use Rattle.descriptor.specs.declared.segmentation.SegmentationMode.{SegmentationMode}
 use Rattle.descriptor.specs.declared.segmentation.SegmentationMode.TheVariants.{Program, Component}
 use Rattle.descriptor.specs.declared.segmentation.SegmentationUpid.{SegmentationUpid}
 use Rattle.descriptor.specs.declared.segmentation.SubSegment.{SubSegment}
-use Rattle.descriptor.specs.declared.segmentation.SubSegments.{SubSegments}
 
 -- ---- "web 1, blackout 1, archive 1, device 2 if restricted, else reserved 5"
 
@@ -33,29 +29,29 @@ named (refuses number values) = DeviceRestrictions.None
 unfoldable pub device_of : ℕ → DeviceRestrictions
 device_of n = named (restrictions_of n)
 
-abbrev pub restricted : DeliveryRestrictionFlags → DeliveryRestrictions
-restricted DeliveryRestrictionFlags.None = record {
+abbrev pub restricted : Option DeliveryRestrictions → DeliveryRestrictions
+restricted None = record {
   web_delivery_allowed_flag = false;
   no_regional_blackout_flag = false;
   archive_allowed_flag = false;
   device_restrictions = DeviceRestrictions.None;
 }
-restricted (DeliveryRestrictionFlags.DeliveryRestrictions r) = r
+restricted (Some r) = r
 
-abbrev pub unrestricted : DeliveryRestrictionFlags → Bool
-unrestricted DeliveryRestrictionFlags.None = true
-unrestricted (DeliveryRestrictionFlags.DeliveryRestrictions r) = false
+abbrev pub unrestricted : Option DeliveryRestrictions → Bool
+unrestricted None = true
+unrestricted (Some r) = false
 
-unfoldable pub delivery_restrictions : Bool → Table DeliveryRestrictionFlags
+unfoldable pub delivery_restrictions : Bool → Table (Option DeliveryRestrictions)
 delivery_restrictions not_restricted =
     pick not_restricted
     (ones 5 (
-    done DeliveryRestrictionFlags.None))
+    done None))
     (flag (λ x. (restricted x).web_delivery_allowed_flag) λ web_delivery_allowed.
     flag (λ x. (restricted x).no_regional_blackout_flag) λ no_regional_blackout.
     flag (λ x. (restricted x).archive_allowed_flag) λ archive_allowed.
     uimsbf 2 (λ x. restrictions_bits (restricted x).device_restrictions) λ device_restrictions.
-    done (DeliveryRestrictionFlags.DeliveryRestrictions (record {
+    done (Some (record {
       web_delivery_allowed_flag = web_delivery_allowed;
       no_regional_blackout_flag = no_regional_blackout;
       archive_allowed_flag = archive_allowed;
@@ -102,24 +98,24 @@ mode_size (Component n) = 1 + n * 6
 
 -- ---- "duration 40 if flagged"
 
-abbrev pub ticks : SegmentationDuration → ℕ
-ticks SegmentationDuration.Absent = 0
-ticks (Ticks t) = t
+abbrev pub ticks : Option ℕ → ℕ
+ticks None = 0
+ticks (Some t) = t
 
-abbrev pub lasting : SegmentationDuration → Bool
-lasting SegmentationDuration.Absent = false
-lasting (Ticks t) = true
+abbrev pub lasting : Option ℕ → Bool
+lasting None = false
+lasting (Some t) = true
 
-unfoldable pub duration : Bool → Table SegmentationDuration
+unfoldable pub duration : Bool → Table (Option ℕ)
 duration flagged =
     pick flagged
     (uimsbf 40 ticks λ segmentation_duration.
-    done (Ticks segmentation_duration))
-    (done SegmentationDuration.Absent)
+    done (Some segmentation_duration))
+    (done None)
 
-abbrev pub duration_size : SegmentationDuration → ℕ
-duration_size SegmentationDuration.Absent = 0
-duration_size (Ticks t) = 5
+abbrev pub duration_size : Option ℕ → ℕ
+duration_size None = 0
+duration_size (Some t) = 5
 
 -- how many bytes both take, by the byte of flags and the byte after it
 abbrev pub fields_before : ℕ → ℕ → ℕ
@@ -169,23 +165,23 @@ front =
 
 -- ---- "Then 0 bytes left: no sub-segments; 1 left: 21 (1, 0); 2 or more: two bytes of sub-segments." In the canonical form there are no more.
 
-abbrev pub sub_bytes : SubSegments → ℕ
-sub_bytes SubSegments.Absent = 0
-sub_bytes (SubSegments.Is x) = 2
+abbrev pub sub_bytes : Option SubSegment → ℕ
+sub_bytes None = 0
+sub_bytes (Some x) = 2
 
-abbrev pub sub_segment : SubSegments → SubSegment
-sub_segment SubSegments.Absent = record { sub_segment_num = 0; sub_segments_expected = 0 }
-sub_segment (SubSegments.Is x) = x
+abbrev pub sub_segment : Option SubSegment → SubSegment
+sub_segment None = record { sub_segment_num = 0; sub_segments_expected = 0 }
+sub_segment (Some x) = x
 
-unfoldable pub sub_segments : Table SubSegments
+unfoldable pub sub_segments : Table (Option SubSegment)
 sub_segments =
     inside remaining sub_bytes λ bytes_left.
     pick (eqb bytes_left 0)
-    (done SubSegments.Absent)
+    (done None)
     (must (eqb bytes_left 2) (
     uimsbf 8 (λ x. (sub_segment x).sub_segment_num) λ sub_segment_num.
     uimsbf 8 (λ x. (sub_segment x).sub_segments_expected) λ sub_segments_expected.
-    done (SubSegments.Is (record { sub_segment_num = sub_segment_num; sub_segments_expected = sub_segments_expected }))))
+    done (Some (record { sub_segment_num = sub_segment_num; sub_segments_expected = sub_segments_expected }))))
 
 -- ---- "type id 8, number 8, expected 8", and the sub-segments
 
@@ -244,9 +240,9 @@ blank_front = record {
   program_segmentation_flag = true;
   segmentation_duration_flag = false;
   delivery_not_restricted_flag = true;
-  delivery_restrictions = DeliveryRestrictionFlags.None;
+  delivery_restrictions = None;
   segmentation_mode = Program;
-  segmentation_duration = SegmentationDuration.Absent;
+  segmentation_duration = None;
   segmentation_upid = blank_upid;
 }
 
@@ -255,7 +251,7 @@ blank_back = record {
   segmentation_type_id = segmentation_type_of 0;
   segment_num = 0;
   segments_expected = 0;
-  sub_segments = SubSegments.Absent;
+  sub_segments = None;
 }
 
 abbrev pub cancelled : DescriptorDetail → Bool

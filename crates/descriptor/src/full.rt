@@ -6,15 +6,13 @@ ghost use Rattle.descriptor.specs.Full.{blank_beside, filled, beside_of, beside_
 ghost use Rattle.table.specs.Bits.{bits_of};
 ghost use Rattle.table.specs.Table.{list, parse};
 
-use crate::back::{BackRead, read_back};
-use crate::front::{ComponentRead, ModeAndUpidRead, read_component, read_mode_and_upid};
-use crate::segmentation::{
-    HeadRead, MAX_COMPONENTS, SegmentationComponent, SegmentationMode, read_head,
-};
-use crate::{Descriptor, DescriptorRead, read_descriptor};
+use crate::back::read_back;
+use crate::front::{read_component, read_mode_and_upid};
+use crate::segmentation::{MAX_COMPONENTS, SegmentationComponent, SegmentationMode, read_head};
+use crate::{Descriptor, read_descriptor};
 use table::lent::view;
 use table::numbers::size;
-use upid::eidr;
+use upid::{Refusal, eidr};
 
 // The components, blank past their count, and the EIDR identifier, all zero where the UPID is no EIDR.
 #[derive(Clone, Copy)]
@@ -26,7 +24,7 @@ pub struct Beside {
 // The identifier is all zero where the kind of the descriptor implies it.
 #[derive(Clone, Copy)]
 pub struct FullDescriptor {
-    pub read: DescriptorRead,
+    pub read: Result<Descriptor, Refusal>,
     pub identifier: [u8; 4],
     pub beside: Beside,
 }
@@ -58,17 +56,14 @@ fn list_components(s: &[u8], from: usize, n: u8) -> [SegmentationComponent; MAX_
 {
     let mut out = no_components();
     let mut next = from;
-    let mut i: u8 = 0;
-    while i < n {
+    for at in 0..size(n) {
         let read = match read_component(s, next) {
-            ComponentRead::Got(m) => m,
-            ComponentRead::Lacks(_) => return no_components(),
+            Ok(m) => m,
+            Err(_) => return no_components(),
         };
-        let component = read.component;
-        let at = size(i);
+        let component = read.value;
         out[at] = component;
         next = read.next;
-        i += 1;
     }
     out
 }
@@ -79,19 +74,19 @@ fn read_beside(payload: &[u8]) -> Beside
     ensures { result ≡ beside_of payload.now }
 {
     let head = match read_head(payload) {
-        HeadRead::Got(h) => h,
-        HeadRead::Lacks(_) => return blank_beside(),
+        Ok(h) => h,
+        Err(_) => return blank_beside(),
     };
     if head.cancel {
         return blank_beside();
     }
     let fields = match read_mode_and_upid(payload, 5) {
-        ModeAndUpidRead::Got(f) => f,
-        ModeAndUpidRead::Lacks => return blank_beside(),
+        Some(f) => f,
+        None => return blank_beside(),
     };
     match read_back(payload, fields.next) {
-        BackRead::Got(_) => {}
-        BackRead::Lacks(_) => return blank_beside(),
+        Ok(_) => {}
+        Err(_) => return blank_beside(),
     }
     let written = fields.upid;
     let bytes = written.bytes;
@@ -111,12 +106,12 @@ fn read_beside(payload: &[u8]) -> Beside
 }
 
 // What stands beside the reading of a payload.
-pub fn beside_of(read: DescriptorRead, payload: &[u8]) -> Beside
+pub fn beside_of(read: Result<Descriptor, Refusal>, payload: &[u8]) -> Beside
     ensures { result ≡ beside_read read payload.now }
 {
     match read {
-        DescriptorRead::Refused(_) => blank_beside(),
-        DescriptorRead::Is(d) => match d {
+        Err(_) => blank_beside(),
+        Ok(d) => match d {
             Descriptor::Avail(_) => blank_beside(),
             Descriptor::Dtmf(_) => blank_beside(),
             Descriptor::Segmentation(_) => read_beside(payload),
@@ -130,12 +125,12 @@ pub fn beside_of(read: DescriptorRead, payload: &[u8]) -> Beside
 }
 
 // The identifier that stands beside a reading: all zero where the descriptor's kind implies it.
-pub fn identifier_of(read: DescriptorRead, identifier: [u8; 4]) -> [u8; 4]
+pub fn identifier_of(read: Result<Descriptor, Refusal>, identifier: [u8; 4]) -> [u8; 4]
     ensures { result ≡ identifier_read read identifier }
 {
     match read {
-        DescriptorRead::Refused(_) => [0; 4],
-        DescriptorRead::Is(d) => match d {
+        Err(_) => [0; 4],
+        Ok(d) => match d {
             Descriptor::Avail(_) => [0; 4],
             Descriptor::Dtmf(_) => [0; 4],
             Descriptor::Segmentation(_) => [0; 4],

@@ -29,13 +29,6 @@ pub enum Descriptor {
     Reserved { tag: u8, private_bytes: View },
 }
 
-// A descriptor, or refusal 21, 23, 24 or 25.
-#[derive(Clone, Copy)]
-pub enum DescriptorRead {
-    Is(Descriptor),
-    Refused(Refusal),
-}
-
 // Whether an identifier is "CUEI".
 pub fn is_cuei(identifier: [u8; 4]) -> bool
     ensures { result ≡ is_cuei identifier }
@@ -54,7 +47,7 @@ pub fn is_cuei(identifier: [u8; 4]) -> bool
 
 // The descriptor that a tag, an identifier and a payload make. Each arm returns, here and where a caller matches the answer: what
 // is built is then stored where it goes, and is not merged with what the other arms build.
-pub fn read_descriptor(tag: u8, identifier: [u8; 4], payload: &[u8]) -> DescriptorRead
+pub fn read_descriptor(tag: u8, identifier: [u8; 4], payload: &[u8]) -> Result<Descriptor, Refusal>
     ensures { result ≡ descriptor_of tag identifier payload.now }
 {
     if is_cuei(identifier) {

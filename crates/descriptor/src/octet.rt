@@ -5,38 +5,21 @@ ghost use Rattle.table.specs.Bits.{bits_of, field};
 ghost use Rattle.table.specs.Cursor.{place};
 ghost use Rattle.table.specs.Table.{number, parse};
 
-use crate::DescriptorRead;
-use table::cursor::{Cursor, Short, Taken};
+use crate::Descriptor;
+use table::cursor::{Cursor, Field, Short};
 use table::numbers::wide;
 use upid::Refusal;
 
-#[derive(Clone, Copy)]
-pub(crate) struct Small {
-    pub value: u8,
-    pub next: Cursor,
-}
-
-#[derive(Clone, Copy)]
-pub(crate) enum Octet {
-    Got(Small),
-    Lacks(Short),
-}
-
 // The number in the next w bits, of which there are at most eight.
-pub(crate) fn take_octet(s: &[u8], c: Cursor, w: usize) -> Octet
+pub(crate) fn take_octet(s: &[u8], c: Cursor, w: usize) -> Result<Field<u8, Cursor>, Short>
     requires { w ≤ 8 }
     ensures { result ≡ octet_of (parse (number w) (bits_of s.now) (place c)) }
 {
-    match c.take(s, w) {
-        Taken::Got(n) => {
-            let next = n.next;
-            Octet::Got(Small {
-                value: n.value as u8,
-                next,
-            })
-        }
-        Taken::Lacks(e) => Octet::Lacks(e),
-    }
+    let n = c.take(s, w)?;
+    Ok(Field {
+        value: n.value as u8,
+        next: n.next,
+    })
 }
 
 // The number in the four bytes from `at` on.
@@ -54,14 +37,4 @@ pub(crate) fn number40(s: &[u8], at: usize) -> u64
     ensures { result ≡ field (bits_of s.now) (at * 8) 40 }
 {
     number32(s, at) * 256 + wide(s[at + 4])
-}
-
-// Refusal 21.
-pub(crate) fn lacks(e: Short) -> DescriptorRead
-    ensures { result ≡ lacking e }
-{
-    DescriptorRead::Refused(Refusal::NotEnoughData {
-        expected: e.expected,
-        actual: e.actual,
-    })
 }

@@ -6,16 +6,16 @@ ghost use Rattle.descriptor.specs.Private.{upid_checked, head_read};
 ghost use Rattle.table.specs.Bits.{bits_of};
 ghost use Rattle.table.specs.Table.{parse};
 
-use crate::back::{Back, BackRead, read_back};
-use crate::front::{Front, FrontRead, read_front};
-use crate::octet::{lacks, number32};
-use crate::{Descriptor, DescriptorRead};
+use crate::Descriptor;
+use crate::back::{Back, read_back};
+use crate::front::{Front, read_front};
+use crate::octet::number32;
 use names::flags::DeviceRestrictions;
 use names::segmentation::SegmentationTypeId;
 use table::View;
 use table::cursor::Short;
 use table::lent::view;
-use upid::{Refusal, UpidRead, check_upid};
+use upid::{Refusal, check_upid};
 
 #[derive(Clone, Copy)]
 pub struct DeliveryRestrictions {
@@ -25,13 +25,7 @@ pub struct DeliveryRestrictions {
     pub device_restrictions: DeviceRestrictions,
 }
 
-#[derive(Clone, Copy)]
-pub enum DeliveryRestrictionFlags {
-    None,
-    DeliveryRestrictions(DeliveryRestrictions),
-}
-
-// By components, with their count. The components themselves stand beside a descriptor.
+// By components, with their count. The components themselves stand beside a descriptor. (No Option: the whole program is no absence.)
 #[derive(Clone, Copy)]
 pub enum SegmentationMode {
     Program,
@@ -47,12 +41,6 @@ pub struct SegmentationComponent {
     pub pts_offset: u64,
 }
 
-#[derive(Clone, Copy)]
-pub enum SegmentationDuration {
-    Absent,
-    Ticks(u64),
-}
-
 // The type of a UPID and its bytes. None (type 0) and EIDR (type 10), whose bytes stand beside a descriptor, have the blank view.
 #[derive(Clone, Copy)]
 pub struct SegmentationUpid {
@@ -66,28 +54,23 @@ pub struct SubSegment {
     pub sub_segments_expected: u8,
 }
 
-#[derive(Clone, Copy)]
-pub enum SubSegments {
-    Absent,
-    Is(SubSegment),
-}
-
 // The three flags say what their parts say.
 #[derive(Clone, Copy)]
 pub struct SegmentationDetail {
     pub program_segmentation_flag: bool,
     pub segmentation_duration_flag: bool,
     pub delivery_not_restricted_flag: bool,
-    pub delivery_restrictions: DeliveryRestrictionFlags,
+    pub delivery_restrictions: Option<DeliveryRestrictions>,
     pub segmentation_mode: SegmentationMode,
-    pub segmentation_duration: SegmentationDuration,
+    pub segmentation_duration: Option<u64>,
     pub segmentation_upid: SegmentationUpid,
     pub segmentation_type_id: SegmentationTypeId,
     pub segment_num: u8,
     pub segments_expected: u8,
-    pub sub_segments: SubSegments,
+    pub sub_segments: Option<SubSegment>,
 }
 
+// No Option: a cancelled event is no absence.
 #[derive(Clone, Copy)]
 pub enum DescriptorDetail {
     Cancel,
@@ -98,13 +81,6 @@ pub enum DescriptorDetail {
 pub struct SegmentationDescriptor {
     pub segmentation_event_id: u32,
     pub descriptor_detail: DescriptorDetail,
-}
-
-// What a UPID is read as.
-#[derive(Clone, Copy)]
-enum UpidChecked {
-    Is(SegmentationUpid),
-    Refused(Refusal),
 }
 
 // A UPID that its rules accept. Where there are no bytes to view, or they stand beside the descriptor, the view is blank.
@@ -121,24 +97,24 @@ fn reported(upid_type: u8, bytes: View) -> SegmentationUpid
 }
 
 // A UPID as written, by its own rules: with its reported type, or refused, with a view that counts from the payload's start.
-fn checked_upid(payload: &[u8], written: SegmentationUpid) -> UpidChecked
+fn checked_upid(payload: &[u8], written: SegmentationUpid) -> Result<SegmentationUpid, Refusal>
     ensures { result ≡ upid_checked payload.now written }
 {
     let bytes = written.bytes;
     let part = view(payload, bytes);
     match check_upid(written.upid_type, part) {
-        UpidRead::Fine(upid_type) => UpidChecked::Is(reported(upid_type, bytes)),
-        UpidRead::Refused(refusal) => match refusal {
-            Refusal::InputTooLong => UpidChecked::Refused(refusal),
+        Ok(upid_type) => Ok(reported(upid_type, bytes)),
+        Err(refusal) => match refusal {
+            Refusal::InputTooLong => Err(refusal),
             Refusal::NotEnoughData {
                 expected: _,
                 actual: _,
-            } => UpidChecked::Refused(refusal),
-            Refusal::UpidLengthTypeMismatch => UpidChecked::Refused(refusal),
+            } => Err(refusal),
+            Refusal::UpidLengthTypeMismatch => Err(refusal),
             Refusal::InvalidUpidContent {
                 upid_type,
                 bytes: text,
-            } => UpidChecked::Refused(Refusal::InvalidUpidContent {
+            } => Err(Refusal::InvalidUpidContent {
                 upid_type,
                 bytes: View {
                     at: bytes.at + text.at,
@@ -149,7 +125,7 @@ fn checked_upid(payload: &[u8], written: SegmentationUpid) -> UpidChecked
                 upid_type: _,
                 expected: _,
                 actual: _,
-            } => UpidChecked::Refused(refusal),
+            } => Err(refusal),
         },
     }
 }
@@ -160,7 +136,7 @@ fn active_with(
     front: Front,
     segmentation_upid: SegmentationUpid,
     back: Back,
-) -> DescriptorRead
+) -> Result<Descriptor, Refusal>
     ensures { result ≡ active_with event front segmentation_upid back }
 {
     let delivery_restrictions = front.delivery_restrictions;
@@ -168,7 +144,7 @@ fn active_with(
     let segmentation_duration = front.segmentation_duration;
     let segmentation_type_id = back.segmentation_type_id;
     let sub_segments = back.sub_segments;
-    DescriptorRead::Is(Descriptor::Segmentation(SegmentationDescriptor {
+    Ok(Descriptor::Segmentation(SegmentationDescriptor {
         segmentation_event_id: event,
         descriptor_detail: DescriptorDetail::Active(SegmentationDetail {
             program_segmentation_flag: front.program_segmentation_flag,
@@ -187,23 +163,14 @@ fn active_with(
 }
 
 // What follows the head of a descriptor that is not cancelled, from byte `at` on.
-fn read_active(payload: &[u8], at: usize, event: u32) -> DescriptorRead
+fn read_active(payload: &[u8], at: usize, event: u32) -> Result<Descriptor, Refusal>
     ensures { result ≡ active_of payload.now event (at * 8) }
 {
-    let fronted = match read_front(payload, at) {
-        FrontRead::Got(f) => f,
-        FrontRead::Lacks(e) => return lacks(e),
-    };
-    let front = fronted.front;
+    let fronted = read_front(payload, at)?;
+    let front = fronted.value;
     let written = front.segmentation_upid;
-    let segmentation_upid = match checked_upid(payload, written) {
-        UpidChecked::Is(u) => u,
-        UpidChecked::Refused(r) => return DescriptorRead::Refused(r),
-    };
-    let back = match read_back(payload, fronted.next) {
-        BackRead::Got(b) => b,
-        BackRead::Lacks(e) => return lacks(e),
-    };
+    let segmentation_upid = checked_upid(payload, written)?;
+    let back = read_back(payload, fronted.next)?;
     active_with(event, front, segmentation_upid, back)
 }
 
@@ -214,44 +181,35 @@ pub(crate) struct Headed {
     pub cancel: bool,
 }
 
-#[derive(Clone, Copy)]
-pub(crate) enum HeadRead {
-    Got(Headed),
-    Lacks(Short),
-}
-
-pub(crate) fn read_head(payload: &[u8]) -> HeadRead
+pub(crate) fn read_head(payload: &[u8]) -> Result<Headed, Short>
     ensures { head_read result (parse head (bits_of payload.now) 0) }
 {
     let left = payload.len();
     if left < 4 {
-        return HeadRead::Lacks(Short {
+        return Err(Short {
             expected: 4,
             actual: left,
         });
     }
     if left < 5 {
-        return HeadRead::Lacks(Short {
+        return Err(Short {
             expected: 0,
             actual: 0,
         });
     }
-    HeadRead::Got(Headed {
+    Ok(Headed {
         event: number32(payload, 0) as u32,
         cancel: payload[4] / 128 % 2 == 1,
     })
 }
 
 // Tag 2.
-pub fn read_segmentation(payload: &[u8]) -> DescriptorRead
+pub fn read_segmentation(payload: &[u8]) -> Result<Descriptor, Refusal>
     ensures { result ≡ segmentation_of payload.now }
 {
-    let head = match read_head(payload) {
-        HeadRead::Got(h) => h,
-        HeadRead::Lacks(e) => return lacks(e),
-    };
+    let head = read_head(payload)?;
     if head.cancel {
-        return DescriptorRead::Is(Descriptor::Segmentation(SegmentationDescriptor {
+        return Ok(Descriptor::Segmentation(SegmentationDescriptor {
             segmentation_event_id: head.event,
             descriptor_detail: DescriptorDetail::Cancel,
         }));

@@ -14,15 +14,15 @@ use Rattle.table.proofs.Fields.{byte_field, field_in}
 use Rattle.table.proofs.Lists.{zero_one, and_true}
 use Rattle.upid.specs.Upid.{check_of}
 use Rattle.descriptor.specs.Segmentation.{delivery_restrictions, component, blank_component, Moded, mode, duration, written_upid, ListedFront, parts, front, sub_segment, sub_segments, back, Head, head, blank_upid, Segmentation, segmentation}
-use Rattle.descriptor.specs.declared.segmentation.DeliveryRestrictionFlags.{DeliveryRestrictionFlags}
 use Rattle.descriptor.specs.declared.segmentation.SegmentationComponent.{SegmentationComponent}
-use Rattle.descriptor.specs.declared.segmentation.SegmentationDuration.{SegmentationDuration}
 use Rattle.descriptor.specs.declared.segmentation.SegmentationUpid.{SegmentationUpid}
-use Rattle.descriptor.specs.declared.segmentation.SubSegments.{SubSegments}
 use Rattle.canonical_form.specs.Descriptor.{canonical_upid, upid_canonical, canonical_segmentation}
 use Rattle.descriptor_measure.specs.Writing.{accepts, upid_in}
 use Rattle.descriptor_canonical.specs.Private.{flags_ones, lasting_bytes, components_ones, ends_at, upid_at, components_at, active_fits, segmentation_fits}
 use Rattle.descriptor_canonical.proofs.Through.{joined, through, through_in, through_same, through_must, through_list, through_none, through_number, through_flag, through_ones, through_part, through_remaining, implied, guarded, under, over, drops, leb_bytes, eqb_bytes}
+use Rattle.std.proofs.Common.{Some, None, Option}
+use Rattle.descriptor.specs.declared.segmentation.DeliveryRestrictions.{DeliveryRestrictions}
+use Rattle.descriptor.specs.declared.segmentation.SubSegment.{SubSegment}
 
 and_tt : (b : Bool) → b && true ≡ b
 and_tt true = refl
@@ -48,14 +48,14 @@ left_other : (l p n : ℕ) (u : Bool) → (l ≡ 0 → ⊥) → (l ≡ 2 → ⊥
 unfolding left_over
 left_other l p n u a b = rw (ne_eqb l 0 a, ne_eqb l 2 b)
 
-abbrev two : Table SubSegments
+abbrev two : Table (Option SubSegment)
 two =
     uimsbf 8 (λ x. (sub_segment x).sub_segment_num) λ number.
     uimsbf 8 (λ x. (sub_segment x).sub_segments_expected) λ expected.
-    done (SubSegments.Is (record { sub_segment_num = number; sub_segments_expected = expected }))
+    done (Some (record { sub_segment_num = number; sub_segments_expected = expected }))
 
 module _ (s : List ℕ) where
-  two_through : (p : ℕ) (f : SubSegments → ℕ → Bool) (x : Bool) → ((y : SubSegments) → f y (p + 8 + 8) ≡ x)
+  two_through : (p : ℕ) (f : Option SubSegment → ℕ → Bool) (x : Bool) → ((y : Option SubSegment) → f y (p + 8 + 8) ≡ x)
       → through two (bits_of s) p f ≡ leb (p + 8) (length s * 8) && (leb (p + 8 + 8) (length s * 8) && x)
   two_through p f x same =
       let n : ℕ = length s * 8 in
@@ -68,7 +68,7 @@ module _ (s : List ℕ) where
       let n : ℕ = length s * 8 in
       let l : ℕ = (n - p) / 8 in
       through_remaining s p _ _ _
-      ∙ through_pick (eqb l 0) (done SubSegments.Absent) _ (bits_of s) p _
+      ∙ through_pick (eqb l 0) (done None) _ (bits_of s) p _
       ∙ ap (pick (eqb l 0) (eqb p n && u))
       (through_must (eqb l 2) two (bits_of s) p (λ x m. eqb m n && u)
       ∙ under (eqb l 2) (two_through p (λ x m. eqb m n && u) (eqb (p + 8 + 8) n && u) (λ y. refl)))
@@ -168,13 +168,13 @@ module _ (s : List ℕ) where
     unfolding upid_at
     upid_there at e = leb-true (at + 5) (length s) (and_true (leb (at + 5) (length s)) _ e).0
 
-    duration_through : (at : ℕ) (b : Bool) (q : ListedFront → SegmentationDuration) (k : SegmentationDuration → Table ListedFront)
-        → ((d : SegmentationDuration) (m : ℕ) → through (k d) (bits_of s) (m * 8) G ≡ upid_at s m)
+    duration_through : (at : ℕ) (b : Bool) (q : ListedFront → Option ℕ) (k : Option ℕ → Table ListedFront)
+        → ((d : Option ℕ) (m : ℕ) → through (k d) (bits_of s) (m * 8) G ≡ upid_at s m)
         → through (inside (duration b) q k) (bits_of s) (at * 8) G ≡ upid_at s (at + pick b 5 0)
     unfolding duration
     duration_through at true q k rest =
         let n : ℕ = length s * 8 in
-        let d : SegmentationDuration = SegmentationDuration.Ticks (field (bits_of s) (at * 8) 40) in
+        let d : Option ℕ = Some (field (bits_of s) (at * 8) 40) in
         let z : at * 8 + 40 ≡ (at + 5) * 8 = omega arith in
         through_in (duration true) q k (bits_of s) (at * 8) G
         ∙ through_number s (at * 8) _ 40 _ _
@@ -183,7 +183,7 @@ module _ (s : List ℕ) where
         ∙ implied (leb ((at + 5) * 8) n) (upid_at s (at + 5)) (λ e. le-leb ((at + 5) * 8) n (omega (arith, upid_there (at + 5) e)))
     duration_through at false q k rest =
         let z : at ≡ at + 0 = omega arith in
-        through_in (duration false) q k (bits_of s) (at * 8) G ∙ rest SegmentationDuration.Absent at ∙ ap (upid_at s) z
+        through_in (duration false) q k (bits_of s) (at * 8) G ∙ rest None at ∙ ap (upid_at s) z
 
     -- ---- components
     component_through : (at : ℕ) (h : SegmentationComponent → ℕ → Bool) (x : Bool) → (at + 6 ≤ length s → (y : SegmentationComponent) → h y ((at + 6) * 8) ≡ x)
@@ -256,20 +256,20 @@ module _ (s : List ℕ) where
         ∙ ap test (byte_at 48 6 refl (omega (arith, l))))
 
     -- ---- the restrictions
-    delivery_through : (b : Bool) (q : ListedFront → DeliveryRestrictionFlags) (k : DeliveryRestrictionFlags → Table ListedFront) (x : Bool)
-        → (6 ≤ length s → (r : DeliveryRestrictionFlags) → through (k r) (bits_of s) 48 G ≡ x)
+    delivery_through : (b : Bool) (q : ListedFront → Option DeliveryRestrictions) (k : Option DeliveryRestrictions → Table ListedFront) (x : Bool)
+        → (6 ≤ length s → (r : Option DeliveryRestrictions) → through (k r) (bits_of s) 48 G ≡ x)
         → through (inside (delivery_restrictions b) q k) (bits_of s) 43 G ≡ leb 6 (length s) && (pick b (eqb (field (bits_of s) 43 5) 31) true && x)
     unfolding delivery_restrictions
     delivery_through true q k x rest =
         let n : ℕ = length s * 8 in
-        let f : DeliveryRestrictionFlags → ℕ → Bool = λ r m. through (k r) (bits_of s) m G in
+        let f : Option DeliveryRestrictions → ℕ → Bool = λ r m. through (k r) (bits_of s) m G in
         through_in (delivery_restrictions true) q k (bits_of s) 43 G
         ∙ through_ones s 43 f 5 _
-        ∙ over (leb_bytes 48 6 (length s) refl) (eqb (field (bits_of s) 43 5) 31 && f DeliveryRestrictionFlags.None 48)
-        ∙ guarded (leb 6 (length s)) _ _ (λ e. under (eqb (field (bits_of s) 43 5) 31) (rest (leb-true 6 (length s) e) DeliveryRestrictionFlags.None))
+        ∙ over (leb_bytes 48 6 (length s) refl) (eqb (field (bits_of s) 43 5) 31 && f None 48)
+        ∙ guarded (leb 6 (length s)) _ _ (λ e. under (eqb (field (bits_of s) 43 5) 31) (rest (leb-true 6 (length s) e) None))
     delivery_through false q k x rest =
         let n : ℕ = length s * 8 in
-        let f : DeliveryRestrictionFlags → ℕ → Bool = λ r m. through (k r) (bits_of s) m G in
+        let f : Option DeliveryRestrictions → ℕ → Bool = λ r m. through (k r) (bits_of s) m G in
         through_in (delivery_restrictions false) q k (bits_of s) 43 G
         ∙ through_flag s 43 f _ _
         ∙ under (leb 44 n) (through_flag s 44 f _ _ ∙ under (leb 45 n) (through_flag s 45 f _ _ ∙ under (leb 46 n) (through_number s 46 f 2 _ _)))

@@ -53,6 +53,7 @@ pub fn is_canonical_loop(descriptors: &[u8]) -> bool
     ensures { result ≡ canonical_loop descriptors.now }
 {
     let mut at: usize = 0;
+    // Each descriptor says where the next one starts, so this counts no index.
     while at < descriptors.len() {
         let left = descriptors.len() - at;
         if left < 6 {

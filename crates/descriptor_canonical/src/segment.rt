@@ -6,7 +6,7 @@ ghost use Rattle.upid.specs.Upid.{check_of};
 ghost use Rattle.descriptor_canonical.specs.Private.{flags_ones, lasting_bytes, components_ones, ends_at, upid_at, components_at, active_fits};
 
 use table::numbers::size;
-use upid::{UpidRead, check_upid};
+use upid::check_upid;
 
 // The three flags of a byte: where delivery is not restricted, its other five bits are reserved.
 fn flags_ones(b: u8) -> bool
@@ -33,12 +33,10 @@ fn components_ones(s: &[u8], n: usize) -> bool
     requires { (n ≤ 255) × (7 + n * 6 ≤ length s.now) }
     ensures { result ≡ components_ones n s.now 7 }
 {
-    let mut i: usize = 0;
-    while i < n {
+    for i in 0..n {
         if s[7 + i * 6 + 1] / 2 != 127 {
             return false;
         }
-        i += 1;
     }
     true
 }
@@ -59,8 +57,8 @@ fn is_accepted(upid_type: u8, bytes: &[u8]) -> bool
     ensures { result ≡ accepts (check_of upid_type bytes.now) }
 {
     match check_upid(upid_type, bytes) {
-        UpidRead::Fine(_) => true,
-        UpidRead::Refused(_) => false,
+        Ok(_) => true,
+        Err(_) => false,
     }
 }
 

@@ -13,8 +13,8 @@ use borrow.Author.Tests.{lt-ltb, le-ltb}
 use Rattle.upid.proofs.Laws.{by_cases}
 use Rattle.descriptor_loop.specs.Items.{step_of, Listed, listed, items_from, items_of, count_of}
 use Rattle.descriptor_loop.specs.declared.Step.{Step}
-use Rattle.descriptor_loop.specs.declared.iteration.Counted.TheVariants.{Are}
 use Rattle.descriptor_loop.proofs.Steps.{step_end, Turn, ends, goes, turn, goes_on_lem, forward, within}
+use Rattle.std.proofs.Common.{Ok}
 
 module _ (loop : List ℕ) (fits : length loop ≤ 4076) where
   from_end : (n offset : ℕ) → length loop ≤ offset → items_from n loop offset ≡ []
@@ -109,7 +109,7 @@ module _ (loop : List ℕ) where
   counted_one offset count s fits inside e h = rw e (omega (arith, ap length (rest_more loop fits offset inside)))
 
   pub counted_all : (offset count : ℕ) → length loop ≤ 4076 → length loop ≤ offset
-      → count + length (items_from (length loop - offset) loop offset) ≡ length (items_of loop) → Are count ≡ count_of loop
+      → count + length (items_from (length loop - offset) loop offset) ≡ length (items_of loop) → Ok count ≡ count_of loop
   unfolding count_of
   counted_all offset count fits past h =
       let n : count ≡ length (items_of loop) = omega (arith, ap length (rest_end loop fits offset past)) in

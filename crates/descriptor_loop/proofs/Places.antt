@@ -17,8 +17,6 @@ use Rattle.descriptor.specs.Views.{without_view, upid_views, detail_views, descr
 use Rattle.descriptor.specs.Private.{read_views}
 use Rattle.descriptor.specs.declared.Descriptor.{Descriptor}
 use Rattle.descriptor.specs.declared.Descriptor.TheVariants.{Avail, Dtmf, Segmentation, Time, Reserved}
-use Rattle.descriptor.specs.declared.DescriptorRead.{DescriptorRead}
-use Rattle.descriptor.specs.declared.DescriptorRead.TheVariants as read
 use Rattle.descriptor.specs.declared.segmentation.DescriptorDetail.{DescriptorDetail}
 use Rattle.descriptor.specs.declared.segmentation.DescriptorDetail.TheVariants.{Cancel, Active}
 use Rattle.descriptor.specs.declared.plain.DTMFDescriptor.{DTMFDescriptor}
@@ -29,6 +27,7 @@ use Rattle.descriptor.specs.Segmentation.{with_upid}
 use Rattle.descriptor_loop.specs.Place.{views_of, moved_upid, moved_descriptor}
 use Rattle.descriptor_loop.specs.Private.{Movable, moved_active, moved_detail}
 use Rattle.descriptor_loop.specs.Items.{item_at}
+use Rattle.std.proofs.Common.{Ok, Err, Result}
 
 module _ {A : Type 0} {P : A → Type 0} where
   pub all_first : {x : A} {xs : List A} → All P (x ∷ xs) → P x
@@ -124,9 +123,9 @@ refusal_views_lem base (InvalidUpidContent upid_type_number bytes) = refl
 refusal_views_lem base (InvalidUpidLength upid_type_number expected actual) = refl
 
 -- the views of an item are those of its payload's reading, moved
-pub item_views : (base : ℕ) (d : DescriptorRead) → views_of (item_at base d) ≡ map (shifted base) (read_views d)
-item_views base (read.Is d) = descriptor_views_lem base d
-item_views base (read.Refused r) = refusal_views_lem base r
+pub item_views : (base : ℕ) (d : Result Descriptor Refusal) → views_of (item_at base d) ≡ map (shifted base) (read_views d)
+item_views base (Ok d) = descriptor_views_lem base d
+item_views base (Err r) = refusal_views_lem base r
 
 pub type_stays : (base : ℕ) (u : SegmentationUpid) → (moved_upid base u).upid_type ≡ u.upid_type
 type_stays base u = go (without_view u.upid_type)

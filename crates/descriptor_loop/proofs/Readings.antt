@@ -11,20 +11,19 @@ use Rattle.table.proofs.Lists.{zero_one}
 use Rattle.descriptor.specs.Full.{beside_read, full_of}
 use Rattle.descriptor.specs.declared.Descriptor.{Descriptor}
 use Rattle.descriptor.specs.declared.Descriptor.TheVariants.{Avail, Dtmf, Segmentation, Time, Reserved}
-use Rattle.descriptor.specs.declared.DescriptorRead.{DescriptorRead}
-use Rattle.descriptor.specs.declared.DescriptorRead.TheVariants as read
 use Rattle.descriptor.specs.declared.full.Beside.{Beside}
 use Rattle.descriptor.specs.declared.full.FullDescriptor.{FullDescriptor}
 use Rattle.descriptor_loop.specs.Items.{item_at, read_at, complete_at, step_of, beside_item, reading_of}
-use Rattle.descriptor_loop.specs.declared.Item.{Item}
-use Rattle.descriptor_loop.specs.declared.Item.TheVariants.{Is}
 use Rattle.descriptor_loop.specs.declared.Step.{Step}
 use Rattle.descriptor_loop.specs.declared.reading.Reading.{Reading}
 use Rattle.descriptor_loop.proofs.Steps.{Stands, Clause, long, ended, last, small, entire, clause, step_complete}
+use Rattle.std.proofs.Common.{Ok, Err, Some, Option, Result}
+use Rattle.upid.specs.declared.Refusal.{Refusal}
+use Rattle.descriptor_loop.specs.declared.ItemRefusal.{ItemRefusal}
 
 -- ---- where the payload lies
 
-payload_by : {loop : List ℕ} {offset : ℕ} {s : Step} → Clause loop offset s → (d : Descriptor) → s.item ≡ Is d → (offset + 6 ≤ s.next) × (s.next ≤ length loop)
+payload_by : {loop : List ℕ} {offset : ℕ} {s : Step} → Clause loop offset s → (d : Descriptor) → s.item ≡ Some (Ok d) → (offset + 6 ≤ s.next) × (s.next ≤ length loop)
 unfolding complete_at
 payload_by (long h) d e = zero_one cc
 payload_by (ended h) d e = zero_one cc
@@ -33,10 +32,10 @@ payload_by (small L s) d e = zero_one cc
 payload_by (entire L s h) d e = (omega arith, s.there)
 
 module _ (loop : List ℕ) (offset : ℕ) (s : Step) (is : s ≡ step_of loop offset) where
-  pub payload_there : (d : Descriptor) → s.item ≡ Is d → (offset + 6 ≤ s.next) × (s.next ≤ length loop)
+  pub payload_there : (d : Descriptor) → s.item ≡ Some (Ok d) → (offset + 6 ≤ s.next) × (s.next ≤ length loop)
   payload_there = payload_by (subst (Clause loop offset) (sym is) (clause loop offset))
 
-  pub reading_is_lem : (i : Item) → s.item ≡ i → (b : Beside) → b ≡ beside_item i (take (s.next - (offset + 6)) (drop (offset + 6) loop))
+  pub reading_is_lem : (i : Option (Result Descriptor ItemRefusal)) → s.item ≡ i → (b : Beside) → b ≡ beside_item i (take (s.next - (offset + 6)) (drop (offset + 6) loop))
       → ◌≡◌ {A = Reading} (record { step = s; beside = b }) (reading_of loop offset)
   unfolding reading_of
   reading_is_lem i e b f = rw (← is, e, f)
@@ -44,13 +43,13 @@ module _ (loop : List ℕ) (offset : ℕ) (s : Step) (is : s ≡ step_of loop of
 -- ---- the whole descriptor
 
 -- where the views lie makes no difference to what stands beside
-beside_same : (base : ℕ) (r : DescriptorRead) (payload : List ℕ) → beside_item (item_at base r) payload ≡ beside_read r payload
-beside_same base (read.Is (Avail x)) payload = refl
-beside_same base (read.Is (Dtmf x)) payload = refl
-beside_same base (read.Is (Segmentation x)) payload = refl
-beside_same base (read.Is (Time x)) payload = refl
-beside_same base (read.Is (Reserved tag v)) payload = refl
-beside_same base (read.Refused r) payload = refl
+beside_same : (base : ℕ) (r : Result Descriptor Refusal) (payload : List ℕ) → beside_item (item_at base r) payload ≡ beside_read r payload
+beside_same base (Ok (Avail x)) payload = refl
+beside_same base (Ok (Dtmf x)) payload = refl
+beside_same base (Ok (Segmentation x)) payload = refl
+beside_same base (Ok (Time x)) payload = refl
+beside_same base (Ok (Reserved tag v)) payload = refl
+beside_same base (Err r) payload = refl
 
 -- a whole descriptor as the reading of an item, whose payload lies at `base` of the loop and ends at `next`
 abbrev pub placed : ℕ → ℕ → FullDescriptor → Reading

@@ -14,8 +14,8 @@ use Rattle.descriptor.specs.declared.Descriptor.{Descriptor}
 use Rattle.descriptor.specs.declared.Descriptor.TheVariants.{Avail, Dtmf, Reserved}
 use Rattle.descriptor_loop.specs.Items.{number_of, values_of, read_at, complete_at, step_of, reading_of, Listed, items_from, items_of}
 use Rattle.descriptor_loop.specs.Place.{view_of}
-use Rattle.descriptor_loop.specs.declared.Item.{Item}
-use Rattle.descriptor_loop.specs.declared.Item.TheVariants.{End, Refused, Is}
+use Rattle.std.proofs.Common.{Ok, Err, Some, None, Option, Result}
+use Rattle.descriptor_loop.specs.declared.ItemRefusal.{ItemRefusal}
 
 -- an item in document 01's terms: offset, bytes used, and a refusal's number with its values, or a descriptor with the identifier beside it and the bytes of its view
 pub data Told : Type 0 where
@@ -23,10 +23,10 @@ pub data Told : Type 0 where
   refused : ℕ → ℕ → ℕ → List ℕ → Told
   read : ℕ → ℕ → Descriptor → List ℕ → List ℕ → Told
 
-abbrev pub tells : List ℕ → ℕ → ℕ → List ℕ → Item → Told
-tells loop offset used id End = ended
-tells loop offset used id (Refused r) = refused offset used (number_of r) (values_of r)
-tells loop offset used id (Is d) = read offset used d id (viewed loop (view_of (Is d)))
+abbrev pub tells : List ℕ → ℕ → ℕ → List ℕ → Option (Result Descriptor ItemRefusal) → Told
+tells loop offset used id None = ended
+tells loop offset used id (Some (Err r)) = refused offset used (number_of r) (values_of r)
+tells loop offset used id (Some (Ok d)) = read offset used d id (viewed loop (view_of (Some (Ok d))))
 
 abbrev pub told : List ℕ → Listed → Told
 told loop x = tells loop x.offset x.used x.step.identifier x.step.item

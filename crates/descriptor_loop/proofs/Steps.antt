@@ -13,26 +13,26 @@ use Rattle.table.specs.declared.View.{View}
 use Rattle.upid.proofs.Laws.{by_cases}
 use Rattle.upid.specs.Cover.{All, none}
 use Rattle.upid.specs.declared.Refusal.TheVariants.{InputTooLong}
-use Rattle.descriptor.specs.declared.DescriptorRead.{DescriptorRead}
-use Rattle.descriptor.specs.declared.DescriptorRead.TheVariants as read
 use Rattle.descriptor.proofs.Insides.{read_inside}
 use Rattle.descriptor_loop.specs.Cover.{Ends, few, over, full, TakesRest}
 use Rattle.descriptor_loop.specs.Items.{short, without_identifier, item_at, read_at, complete_at, step_of, unless_end, Listed}
 use Rattle.table.specs.Lent.{shifted}
 use Rattle.descriptor_loop.specs.Place.{views_of}
-use Rattle.descriptor_loop.specs.declared.Item.TheVariants.{End, Refused}
 use Rattle.descriptor_loop.specs.declared.ItemRefusal.{ItemRefusal}
 use Rattle.descriptor_loop.specs.declared.ItemRefusal.TheVariants.{InvalidDescriptorLength, Other}
 use Rattle.descriptor_loop.specs.declared.Step.{Step}
 use Rattle.descriptor_loop.proofs.Places.{all_into, all_map, item_views}
+use Rattle.std.proofs.Common.{Ok, Err, Some, None, Result}
+use Rattle.descriptor.specs.declared.Descriptor.{Descriptor}
+use Rattle.upid.specs.declared.Refusal.{Refusal}
 
 module _ (loop : List ℕ) (offset : ℕ) where
-  pub step_long : 4076 < length loop → step_of loop offset ≡ without_identifier (Refused (Other InputTooLong)) (length loop)
+  pub step_long : 4076 < length loop → step_of loop offset ≡ without_identifier (Some (Err (Other InputTooLong))) (length loop)
   unfolding step_of
   step_long h = rw (lt-ltb _ _ h)
 
   module _ (fits : length loop ≤ 4076) where
-    pub step_end : length loop ≤ offset → step_of loop offset ≡ without_identifier End (length loop)
+    pub step_end : length loop ≤ offset → step_of loop offset ≡ without_identifier None (length loop)
     unfolding step_of
     step_end h = rw (le-ltb _ _ fits, le-leb _ _ h)
 
@@ -48,7 +48,7 @@ module _ (loop : List ℕ) (offset : ℕ) where
         step_over h = rw (le-ltb _ _ fits, lt-leb _ _ inside, le-ltb _ _ six, ← is, lt-ltb _ _ h)
 
         module _ (there : L + 2 ≤ length loop - offset) where
-          pub step_full : 254 < L → step_of loop offset ≡ without_identifier (Refused InvalidDescriptorLength) (length loop)
+          pub step_full : 254 < L → step_of loop offset ≡ without_identifier (Some (Err InvalidDescriptorLength)) (length loop)
           unfolding step_of
           step_full h = rw (le-ltb _ _ fits, lt-leb _ _ inside, le-ltb _ _ six, ← is, le-ltb _ _ there, lt-ltb _ _ h)
 
@@ -72,9 +72,9 @@ pub record Stands (loop : List ℕ) (offset L : ℕ) : Type 0 where
   pub right : L ≤ 254
 
 pub data Clause (loop : List ℕ) (offset : ℕ) : Step → Type 0 where
-  long : 4076 < length loop → Clause loop offset (without_identifier (Refused (Other InputTooLong)) (length loop))
-  ended : length loop ≤ offset → Clause loop offset (without_identifier End (length loop))
-  last : (r : ItemRefusal) → views_of (Refused r) ≡ [] → Ends (drop offset loop) → Clause loop offset (without_identifier (Refused r) (length loop))
+  long : 4076 < length loop → Clause loop offset (without_identifier (Some (Err (Other InputTooLong))) (length loop))
+  ended : length loop ≤ offset → Clause loop offset (without_identifier None (length loop))
+  last : (r : ItemRefusal) → views_of (Some (Err r)) ≡ [] → Ends (drop offset loop) → Clause loop offset (without_identifier (Some (Err r)) (length loop))
   small : (L : ℕ) → Stands loop offset L → Clause loop offset (without_identifier (short 6 (L + 2)) (offset + (L + 2)))
   entire : (L : ℕ) → Stands loop offset L → 4 ≤ L → Clause loop offset (complete_at loop offset L)
 
@@ -127,9 +127,9 @@ pub data Turn (loop : List ℕ) (offset : ℕ) : ℕ → Type 0 where
   ends : Ends (drop offset loop) → Turn loop offset (length loop)
   goes : (L : ℕ) → Stands loop offset L → Turn loop offset (offset + (L + 2))
 
-no_end : (base : ℕ) (d : DescriptorRead) (xs : List Listed) → unless_end (item_at base d) xs ≡ xs
-no_end base (read.Is d) xs = refl
-no_end base (read.Refused r) xs = refl
+no_end : (base : ℕ) (d : Result Descriptor Refusal) (xs : List Listed) → unless_end (item_at base d) xs ≡ xs
+no_end base (Ok d) xs = refl
+no_end base (Err r) xs = refl
 
 module _ (loop : List ℕ) (offset : ℕ) (fits : length loop ≤ 4076) (inside : offset < length loop) where
   turn_by_lem : {s : Step} → Clause loop offset s → Turn loop offset s.next

@@ -14,14 +14,13 @@ use Rattle.descriptor_loop.specs.Private.{Run}
 use Rattle.descriptor_loop.specs.Cover.{Ends, Cutting, TakesRest, Covered, times}
 use Rattle.descriptor_loop.specs.Items.{without_identifier, step_of, reading_of, Listed, items_of, count_of}
 use Rattle.descriptor_loop.specs.Place.{views_of}
-use Rattle.descriptor_loop.specs.declared.Item.TheVariants.{Refused}
 use Rattle.descriptor_loop.specs.declared.ItemRefusal.TheVariants.{Other}
-use Rattle.descriptor_loop.specs.declared.iteration.Counted.TheVariants.{Are}
 use Rattle.descriptor_loop.proofs.Cuttings as cuttings
 use Rattle.descriptor_loop.proofs.Lists as lists
 use Rattle.descriptor_loop.proofs.Readings as readings
 use Rattle.descriptor_loop.proofs.Readings.{placed}
 use Rattle.descriptor_loop.proofs.Steps as steps
+use Rattle.std.proofs.Common.{Ok, Err, Some}
 
 -- ---- no item is split
 
@@ -63,7 +62,7 @@ pub at_most_2037_items : (loop : List ℕ) → length (items_of loop) ≤ 2037
 at_most_2037_items = lists.few_items
 
 -- A loop over 4,076 bytes is refused at any offset, also past its end.
-pub too_long_before_ended : (loop : List ℕ) (offset : ℕ) → 4076 < length loop → step_of loop offset ≡ without_identifier (Refused (Other InputTooLong)) (length loop)
+pub too_long_before_ended : (loop : List ℕ) (offset : ℕ) → 4076 < length loop → step_of loop offset ≡ without_identifier (Some (Err (Other InputTooLong))) (length loop)
 too_long_before_ended = steps.step_long
 
 -- ---- the full reading
@@ -78,7 +77,7 @@ a_reading_is_the_full_descriptor loop offset L fits is there h right =
 -- ---- for programs over a loop
 
 -- a loop whose items were counted can be stepped over
-pub counted_fits : (loop : List ℕ) (n : ℕ) → count_of loop ≡ Are n → length loop ≤ 4076
+pub counted_fits : (loop : List ℕ) (n : ℕ) → count_of loop ≡ Ok n → length loop ≤ 4076
 unfolding count_of
 counted_fits loop n e =
     by_cases 4076 (length loop)

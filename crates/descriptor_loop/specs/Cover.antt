@@ -1,8 +1,7 @@
 -- What it means that the items of a loop cover it, and that it can be cut in no other way.
-use Rattle.std.specs.Prelude.{ℕ, ◌+◌, ◌≤◌, ◌<◌, Bool, ◌&&◌, List, [], ◌∷◌, ◌++◌, map, ◌≡◌, leb, ltb, length, take, drop, get_or}
+use Rattle.std.specs.Prelude.{ℕ, ◌+◌, ◌≤◌, ◌<◌, Bool, ◌&&◌, List, [], ◌∷◌, ◌++◌, map, ◌≡◌, leb, ltb, length, take, drop, get_or, Err, Some}
 use Rattle.table.specs.Bits.{pick}
 use Rattle.descriptor_loop.specs.Items.{without_identifier, Listed}
-use Rattle.descriptor_loop.specs.declared.Item.TheVariants.{Refused}
 use Rattle.descriptor_loop.specs.declared.ItemRefusal.{ItemRefusal}
 use Rattle.descriptor_loop.specs.declared.Step.{Step}
 
@@ -54,7 +53,7 @@ pub data Follow : ℕ → ℕ → List Listed → Type 0 where
 -- the step refuses the item and takes the rest: the next offset is the loop's length
 pub record TakesRest (loop : List ℕ) (s : Step) : Type 0 where
   pub refusal : ItemRefusal
-  pub is : s ≡ without_identifier (Refused refusal) (length loop)
+  pub is : s ≡ without_identifier (Some (Err refusal)) (length loop)
 
 -- The items' bytes are one cutting of the loop, in order from its start to its end; and no other cutting meets the rules.
 pub record Covered (loop : List ℕ) (xs : List Listed) : Type 0 where

@@ -3,13 +3,13 @@ ghost use Rattle.std.specs.Prelude.{◌≡◌, ◌+◌, ◌≤◌, ◌<◌, leng
 ghost use Rattle.descriptor_loop.specs.Items.{without_identifier, short, complete_at, step_of, count_of};
 
 use crate::place::{move_descriptor, move_refusal};
-use crate::{Item, ItemRefusal, MAX_DESCRIPTOR, MAX_LOOP, Step};
-use descriptor::{Descriptor, DescriptorRead, read_descriptor};
+use crate::{ItemRefusal, MAX_DESCRIPTOR, MAX_LOOP, Step};
+use descriptor::{Descriptor, read_descriptor};
 use table::numbers::size;
 use upid::Refusal;
 
 // An item without an identifier.
-fn plain(item: Item, next: usize) -> Step
+fn plain(item: Option<Result<Descriptor, ItemRefusal>>, next: usize) -> Step
     ensures { result ≡ without_identifier item next }
 {
     Step {
@@ -20,10 +20,10 @@ fn plain(item: Item, next: usize) -> Step
 }
 
 // Refusal 21.
-fn lacks(expected: usize, actual: usize) -> Item
+fn lacks(expected: usize, actual: usize) -> Option<Result<Descriptor, ItemRefusal>>
     ensures { result ≡ short expected actual }
 {
-    Item::Refused(ItemRefusal::Other(Refusal::NotEnoughData { expected, actual }))
+    Some(Err(ItemRefusal::Other(Refusal::NotEnoughData { expected, actual })))
 }
 
 // An item of `len` bytes after its head, of which four are the identifier.
@@ -41,21 +41,21 @@ fn read_complete(descriptors: &[u8], offset: usize, len: usize) -> Step
     let start = offset + 6;
     let next = offset + (len + 2);
     match read_descriptor(tag, id, &descriptors[start..next]) {
-        DescriptorRead::Refused(r) => {
+        Err(r) => {
             let refusal = ItemRefusal::Other(move_refusal(r, start));
-            return plain(Item::Refused(refusal), next);
+            return plain(Some(Err(refusal)), next);
         }
-        DescriptorRead::Is(d) => match d {
-            Descriptor::Avail(_) => return plain(Item::Is(d), next),
-            Descriptor::Dtmf(_) => return plain(Item::Is(move_descriptor(d, start)), next),
-            Descriptor::Segmentation(_) => return plain(Item::Is(move_descriptor(d, start)), next),
-            Descriptor::Time(_) => return plain(Item::Is(d), next),
+        Ok(d) => match d {
+            Descriptor::Avail(_) => return plain(Some(Ok(d)), next),
+            Descriptor::Dtmf(_) => return plain(Some(Ok(move_descriptor(d, start))), next),
+            Descriptor::Segmentation(_) => return plain(Some(Ok(move_descriptor(d, start))), next),
+            Descriptor::Time(_) => return plain(Some(Ok(d)), next),
             Descriptor::Reserved {
                 tag: _,
                 private_bytes: _,
             } => {
                 return Step {
-                    item: Item::Is(move_descriptor(d, start)),
+                    item: Some(Ok(move_descriptor(d, start))),
                     identifier: id,
                     next,
                 };
@@ -76,7 +76,7 @@ fn by_length(descriptors: &[u8], offset: usize) -> Step
         return plain(lacks(len + 2, 0), end);
     }
     if MAX_DESCRIPTOR < len {
-        return plain(Item::Refused(ItemRefusal::InvalidDescriptorLength), end);
+        return plain(Some(Err(ItemRefusal::InvalidDescriptorLength)), end);
     }
     if len < 4 {
         return plain(lacks(6, len + 2), offset + (len + 2));
@@ -90,13 +90,10 @@ pub fn step(descriptors: &[u8], offset: usize) -> Step
 {
     let end = descriptors.len();
     if MAX_LOOP < end {
-        return plain(
-            Item::Refused(ItemRefusal::Other(Refusal::InputTooLong)),
-            end,
-        );
+        return plain(Some(Err(ItemRefusal::Other(Refusal::InputTooLong))), end);
     }
     if end <= offset {
-        return plain(Item::End, end);
+        return plain(None, end);
     }
     if end - offset < 6 {
         return plain(lacks(2, 0), end);
@@ -104,26 +101,20 @@ pub fn step(descriptors: &[u8], offset: usize) -> Step
     by_length(descriptors, offset)
 }
 
-// How many items a loop has, or refusal 2.
-#[derive(Clone, Copy)]
-pub enum Counted {
-    Are(usize),
-    Refused(ItemRefusal),
-}
-
 // The items of a loop, counted step by step.
-pub fn count_items(descriptors: &[u8]) -> Counted
+pub fn count_items(descriptors: &[u8]) -> Result<usize, ItemRefusal>
     ensures { result ≡ count_of descriptors.now }
 {
     if MAX_LOOP < descriptors.len() {
-        return Counted::Refused(ItemRefusal::Other(Refusal::InputTooLong));
+        return Err(ItemRefusal::Other(Refusal::InputTooLong));
     }
     let mut count: usize = 0;
     let mut offset: usize = 0;
+    // Each step says where the next item starts, so this counts no index.
     while offset < descriptors.len() {
         let s = step(descriptors, offset);
         offset = s.next;
         count += 1;
     }
-    Counted::Are(count)
+    Ok(count)
 }

@@ -21,18 +21,10 @@ pub enum ItemRefusal {
     Other(Refusal),
 }
 
-// What stands at an offset of a loop.
-#[derive(Clone, Copy)]
-pub enum Item {
-    End,
-    Refused(ItemRefusal),
-    Is(Descriptor),
-}
-
 // An item, the identifier of a reserved descriptor (all zero with any other item), and the offset of the next item.
 #[derive(Clone, Copy)]
 pub struct Step {
-    pub item: Item,
+    pub item: Option<Result<Descriptor, ItemRefusal>>,
     pub identifier: [u8; 4],
     pub next: usize,
 }

@@ -6,7 +6,7 @@ ghost use Rattle.descriptor.specs.Views.{upid_views, descriptor_views, refusal_v
 ghost use Rattle.descriptor_loop.specs.Place.{first_view, view_of, moved_upid, moved_descriptor};
 ghost use Rattle.descriptor_loop.specs.Private.{Movable, moved_active};
 
-use crate::{Item, ItemRefusal};
+use crate::ItemRefusal;
 use descriptor::Descriptor;
 use descriptor::plain::DTMFDescriptor;
 use descriptor::segmentation::{
@@ -189,21 +189,21 @@ fn descriptor_view(d: Descriptor) -> View
 }
 
 // The view that an item has, blank where it has none.
-pub fn view_of(item: Item) -> View
+pub fn view_of(item: Option<Result<Descriptor, ItemRefusal>>) -> View
     ensures { result ≡ view_of item }
 {
     match item {
-        Item::End => View { at: 0, len: 0 },
-        Item::Refused(refusal) => match refusal {
+        None => View { at: 0, len: 0 },
+        Some(Err(refusal)) => match refusal {
             ItemRefusal::InvalidDescriptorLength => View { at: 0, len: 0 },
             ItemRefusal::Other(r) => refusal_view(r),
         },
-        Item::Is(d) => descriptor_view(d),
+        Some(Ok(d)) => descriptor_view(d),
     }
 }
 
 // The bytes of an item's identifier (its DTMF characters, its UPID, its private bytes) or of the text that it is refused for, as a part of the lent loop.
-pub fn bytes_of(descriptors: &[u8], item: Item) -> &[u8]
+pub fn bytes_of(descriptors: &[u8], item: Option<Result<Descriptor, ItemRefusal>>) -> &[u8]
     ensures { result.now ≡ viewed descriptors.now (view_of item) }
 {
     let v = view_of(item);

@@ -2,9 +2,8 @@
 ghost use Rattle.std.specs.Prelude.{◌≡◌};
 ghost use Rattle.descriptor_loop.specs.Items.{reading_of};
 
+use crate::Step;
 use crate::iteration::step;
-use crate::{Item, Step};
-use descriptor::DescriptorRead;
 use descriptor::full::{Beside, beside_of, blank_beside};
 
 // A step, and what stands beside its item: blank beside all but a segmentation descriptor.
@@ -22,19 +21,19 @@ pub fn read_item(descriptors: &[u8], offset: usize) -> Reading
     let item = read.item;
     let next = read.next;
     match item {
-        Item::End => Reading {
+        None => Reading {
             step: read,
             beside: blank_beside(),
         },
-        Item::Refused(_) => Reading {
+        Some(Err(_)) => Reading {
             step: read,
             beside: blank_beside(),
         },
-        Item::Is(d) => {
+        Some(Ok(d)) => {
             let start = offset + 6;
             Reading {
                 step: read,
-                beside: beside_of(DescriptorRead::Is(d), &descriptors[start..next]),
+                beside: beside_of(Ok(d), &descriptors[start..next]),
             }
         }
     }

@@ -13,28 +13,28 @@ use Rattle.table.specs.Writing.{Field, bits, Walk, walk}
 use Rattle.table.proofs.Lists.{append_nil}
 use Rattle.table.proofs.Walks.{past, walk_inside}
 use Rattle.descriptor.specs.Segmentation.{delivery_restrictions, blank_component, component, count_of, Moded, mode, duration, written_upid, ListedFront, parts, front, sub_segments, back, head, front_of, back_of, with_upid, Segmentation, segmentation, by_program, lasting, unrestricted}
-use Rattle.descriptor.specs.declared.segmentation.DeliveryRestrictionFlags.{DeliveryRestrictionFlags}
 use Rattle.descriptor.specs.declared.segmentation.SegmentationComponent.{SegmentationComponent}
 use Rattle.descriptor.specs.declared.segmentation.DescriptorDetail.{DescriptorDetail}
 use Rattle.descriptor.specs.declared.segmentation.DescriptorDetail.TheVariants.{Cancel, Active}
-use Rattle.descriptor.specs.declared.segmentation.SegmentationDuration.{SegmentationDuration}
 use Rattle.descriptor.specs.declared.segmentation.SegmentationDetail.{SegmentationDetail}
 use Rattle.descriptor.specs.declared.segmentation.SegmentationMode.{SegmentationMode}
 use Rattle.descriptor.specs.declared.segmentation.SegmentationUpid.{SegmentationUpid}
-use Rattle.descriptor.specs.declared.segmentation.SubSegments.{SubSegments}
 use Rattle.descriptor_measure.specs.Private.{delivery_fields, component_fields, components_fields, mode_fields, duration_fields, upid_fields, sub_fields, back_fields, flag_fields, head_fields, segment_fields}
 use Rattle.descriptor_measure.specs.Writing as writing
 use Rattle.descriptor_measure.specs.Writing.{written_detail}
+use Rattle.std.proofs.Common.{Some, None, Option}
+use Rattle.descriptor.specs.declared.segmentation.DeliveryRestrictions.{DeliveryRestrictions}
+use Rattle.descriptor.specs.declared.segmentation.SubSegment.{SubSegment}
 
 -- the fields of a table inside another, and then those of the outer one
 in_fields : {X Y : Type 0} (t : Table Y) (q : X → Y) (k : Y → Table X) (x : X) (at : ℕ) (fs gs : List Field) → (walk t (q x) at).fields ≡ fs
     → (walk (k (walk t (q x) at).value) x (past (walk t (q x) at).fields at)).fields ≡ gs → (walk (inside t q k) x at).fields ≡ fs ++ gs
 in_fields {X} t q k x at fs gs e f = ap (λ (w : Walk X). w.fields) (walk_inside t q k x at) ∙ ap₂ ◌++◌ e f
 
-delivery_fields_lem : (x : DeliveryRestrictionFlags) (at : ℕ) → (walk (delivery_restrictions (unrestricted x)) x at).fields ≡ delivery_fields x
+delivery_fields_lem : (x : Option DeliveryRestrictions) (at : ℕ) → (walk (delivery_restrictions (unrestricted x)) x at).fields ≡ delivery_fields x
 unfolding delivery_restrictions number bit reserved
-delivery_fields_lem DeliveryRestrictionFlags.None at = refl
-delivery_fields_lem (DeliveryRestrictionFlags.DeliveryRestrictions r) at = refl
+delivery_fields_lem None at = refl
+delivery_fields_lem (Some r) at = refl
 
 component_fields_lem : (x : SegmentationComponent) (at : ℕ) → (walk component x at).fields ≡ component_fields x
 unfolding component number reserved
@@ -55,19 +55,19 @@ mode_fields_lem (SegmentationMode.Component n) cs at e =
     ap (λ (l : List Field). bits 8 n ∷ l)
     (rw (← e) (in_fields (list (length cs) blank_component component) (λ (x : Moded). x.components) _ _ (at + 8) (components_fields cs) [] (list_fields_lem cs (at + 8)) refl ∙ append_nil (components_fields cs)))
 
-duration_fields_lem : (x : SegmentationDuration) (at : ℕ) → (walk (duration (lasting x)) x at).fields ≡ duration_fields x
+duration_fields_lem : (x : Option ℕ) (at : ℕ) → (walk (duration (lasting x)) x at).fields ≡ duration_fields x
 unfolding duration number
-duration_fields_lem SegmentationDuration.Absent at = refl
-duration_fields_lem (SegmentationDuration.Ticks t) at = refl
+duration_fields_lem None at = refl
+duration_fields_lem (Some t) at = refl
 
 upid_fields_lem : (u : SegmentationUpid) (at : ℕ) → (walk written_upid u at).fields ≡ upid_fields u
 unfolding written_upid number part
 upid_fields_lem u at = refl
 
-sub_fields_lem : (x : SubSegments) (at : ℕ) → (walk sub_segments x at).fields ≡ sub_fields x
+sub_fields_lem : (x : Option SubSegment) (at : ℕ) → (walk sub_segments x at).fields ≡ sub_fields x
 unfolding sub_segments remaining number
-sub_fields_lem SubSegments.Absent at = refl
-sub_fields_lem (SubSegments.Is x) at = refl
+sub_fields_lem None at = refl
+sub_fields_lem (Some x) at = refl
 
 -- a flag, and then what follows it
 flag_fields_lem : {X : Type 0} (p : X → Bool) (k : Bool → Table X) (x : X) (at : ℕ) (fs : List Field) → (walk (k (p x)) x (at + 1)).fields ≡ fs

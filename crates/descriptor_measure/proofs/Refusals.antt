@@ -16,21 +16,21 @@ use Rattle.table.specs.Writing.{Field, bits, run, rest, seen, within, contents, 
 use Rattle.table.proofs.Lists.{and_assoc}
 use Rattle.descriptor.specs.Segmentation.{component_count, blank_upid, by_program, count_of, writable_detail, front_of, lasting, unrestricted}
 use Rattle.descriptor.specs.Full.{filled}
-use Rattle.descriptor.specs.declared.segmentation.DeliveryRestrictionFlags.{DeliveryRestrictionFlags}
 use Rattle.descriptor.specs.declared.segmentation.SegmentationComponent.{SegmentationComponent}
 use Rattle.descriptor.specs.declared.segmentation.SegmentationDescriptor.{SegmentationDescriptor}
 use Rattle.descriptor.specs.declared.segmentation.DescriptorDetail.{DescriptorDetail}
 use Rattle.descriptor.specs.declared.segmentation.DescriptorDetail.TheVariants.{Cancel, Active}
-use Rattle.descriptor.specs.declared.segmentation.SegmentationDuration.{SegmentationDuration}
 use Rattle.descriptor.specs.declared.segmentation.SegmentationDetail.{SegmentationDetail}
 use Rattle.descriptor.specs.declared.segmentation.SegmentationMode.{SegmentationMode}
 use Rattle.descriptor.specs.declared.segmentation.SegmentationUpid.{SegmentationUpid}
-use Rattle.descriptor.specs.declared.segmentation.SubSegments.{SubSegments}
 use Rattle.descriptor_measure.specs.Private.{delivery_fields, components_fields, mode_fields, duration_fields, upid_fields, sub_fields, back_fields, segment_fields, numbers_fit}
 use Rattle.descriptor_measure.specs.Private.{ModeFits, RefusedSo}
 use Rattle.descriptor_measure.specs.Writing.{all_zero, writable_upid, writable_segment, segmentation_made, upid_source, written_type, written_upid}
 use Rattle.descriptor_measure.proofs.Fields.{fields_are}
 use Rattle.descriptor_measure.proofs.Tests.{blanks_fit, blanks_length, no_mode_fit, upid_beside, upid_none}
+use Rattle.std.proofs.Common.{Some, None, Option}
+use Rattle.descriptor.specs.declared.segmentation.DeliveryRestrictions.{DeliveryRestrictions}
+use Rattle.descriptor.specs.declared.segmentation.SubSegment.{SubSegment}
 
 -- ---- the views and the numbers of fields one after the other
 pub seen_append : (l : List ℕ) (fs gs : List Field) → seen l (fs ++ gs) ≡ seen l fs && seen l gs
@@ -46,9 +46,9 @@ within_append (run n from ∷ fs) gs = within_append fs gs
 within_append (rest m ∷ fs) gs = within_append fs gs
 
 module _ (l : List ℕ) where
-  seen_delivery : (d : DeliveryRestrictionFlags) → seen l (delivery_fields d) ≡ true
-  seen_delivery DeliveryRestrictionFlags.None = refl
-  seen_delivery (DeliveryRestrictionFlags.DeliveryRestrictions r) = refl
+  seen_delivery : (d : Option DeliveryRestrictions) → seen l (delivery_fields d) ≡ true
+  seen_delivery None = refl
+  seen_delivery (Some r) = refl
 
   seen_components : (cs : List SegmentationComponent) → seen l (components_fields cs) ≡ true
   seen_components [] = refl
@@ -58,21 +58,21 @@ module _ (l : List ℕ) where
   seen_mode SegmentationMode.Program cs = refl
   seen_mode (SegmentationMode.Component n) cs = seen_components cs
 
-  seen_duration : (d : SegmentationDuration) → seen l (duration_fields d) ≡ true
-  seen_duration SegmentationDuration.Absent = refl
-  seen_duration (SegmentationDuration.Ticks t) = refl
+  seen_duration : (d : Option ℕ) → seen l (duration_fields d) ≡ true
+  seen_duration None = refl
+  seen_duration (Some t) = refl
 
-  seen_sub : (s : SubSegments) → seen l (sub_fields s) ≡ true
-  seen_sub SubSegments.Absent = refl
-  seen_sub (SubSegments.Is x) = refl
+  seen_sub : (s : Option SubSegment) → seen l (sub_fields s) ≡ true
+  seen_sub None = refl
+  seen_sub (Some x) = refl
 
 pub flag_within : (b : Bool) → ltb (flag_number b) 2 ≡ true
 flag_within true = refl
 flag_within false = refl
 
-pub within_delivery : (d : DeliveryRestrictionFlags) → within (delivery_fields d) ≡ true
-within_delivery DeliveryRestrictionFlags.None = refl
-within_delivery (DeliveryRestrictionFlags.DeliveryRestrictions r) =
+pub within_delivery : (d : Option DeliveryRestrictions) → within (delivery_fields d) ≡ true
+within_delivery None = refl
+within_delivery (Some r) =
     rw (flag_within r.web_delivery_allowed_flag, flag_within r.no_regional_blackout_flag, flag_within r.archive_allowed_flag) (device r.device_restrictions)
   where
     device : (d : DeviceRestrictions) → ltb (restrictions_bits d) 4 && true ≡ true

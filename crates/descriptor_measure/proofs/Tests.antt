@@ -6,47 +6,34 @@ use mathlib.Core.Path.{◌≡◌, refl, ap, sym, ◌∙◌}
 use native.Mathlib.Numerals.{add-one}
 use native.Mathlib.Omega.{arith}
 use lib.Dec.{leb, ltb, eqb}
-use lib.ListN.{length, get_or, take, drop, replicate, length-take, length-replicate}
-use lib.Seq.{drop-cons, drop-length}
+use lib.ListN.{length, get_or, take, drop, replicate, length-replicate, drop_of_length-le}
+use lib.Seq.{drop-cons}
+use Rattle.std.specs.List.{list_all}
 use borrow.Author.Tests.{ltb-true, ltb-false, eqb-true, not-true, not-false, lt-ltb, le-ltb, eq-eqb, ne_eqb}
 use Rattle.names.specs.Segmentation.{segmentation_number, writable_segmentation}
 use Rattle.table.specs.Bits.{pick}
 use Rattle.table.specs.Lent.{viewed}
 use Rattle.table.specs.Writing.{within}
 use Rattle.upid.specs.Upid.{check_of}
-use Rattle.upid.specs.declared.UpidRead.{UpidRead}
 use Rattle.descriptor.specs.Descriptor.{is_cuei}
 use Rattle.descriptor.specs.Segmentation.{agrees, blank_component, by_program, count_of, lasting, unrestricted, writable_front, writable_detail}
 use Rattle.descriptor.specs.Full.{filled}
 use Rattle.descriptor.specs.declared.segmentation.SegmentationComponent.{SegmentationComponent}
 use Rattle.descriptor.specs.declared.segmentation.DescriptorDetail.TheVariants.{Active}
-use Rattle.descriptor.specs.declared.segmentation.SegmentationDuration.{SegmentationDuration}
 use Rattle.descriptor.specs.declared.segmentation.SegmentationDetail.{SegmentationDetail}
 use Rattle.descriptor.specs.declared.segmentation.SegmentationMode.{SegmentationMode}
 use Rattle.descriptor.specs.declared.segmentation.SegmentationUpid.{SegmentationUpid}
 use Rattle.descriptor.specs.declared.segmentation.SubSegment.{SubSegment}
-use Rattle.descriptor.specs.declared.segmentation.SubSegments.{SubSegments}
 use Rattle.descriptor_measure.specs.Private.{components_fields, mode_fields, duration_fields, sub_fields, back_fields, numbers_fit}
 use Rattle.descriptor_measure.specs.Writing.{accepts, all_zero, alone, writable_reserved, writable_upid, written_type}
+use Rattle.std.proofs.Common.{Some, Option, Result}
+use Rattle.upid.specs.declared.Refusal.{Refusal}
 
--- ---- all zero: what is left says what the whole says
-module _ (s : List ℕ) (i : ℕ) (inv : all_zero (drop i s) ≡ all_zero s) where
-  at_next : i < length s → all_zero (drop i s) ≡ eqb (get_or s i 0) 0 && all_zero (drop (i + 1) s)
-  unfolding all_zero
-  at_next h = rw (add-one i, drop-cons s i 0 h)
-
-  pub zero_turn : i < length s → get_or s i 0 ≡ 0 → all_zero (drop (i + 1) s) ≡ all_zero s
-  zero_turn h e = sym (at_next h ∙ rw (eq-eqb (get_or s i 0) 0 e)) ∙ inv
-
-  pub zero_stop : i < length s → (get_or s i 0 ≡ 0 → ⊥) → false ≡ all_zero s
-  zero_stop h e = sym (at_next h ∙ rw (ne_eqb (get_or s i 0) 0 e)) ∙ inv
-
-  pub zero_end : length s ≤ i → i ≤ length s → true ≡ all_zero s
-  unfolding all_zero
-  zero_end h l =
-      let z : i ≡ length s = omega arith in
-      let d : drop i s ≡ [] = rw z (drop-length s) in
-      sym (ap all_zero d) ∙ inv
+-- ---- all zero
+pub zero_all : (s : List ℕ) → list_all (λ b. eqb b 0) s ≡ all_zero s
+unfolding all_zero
+zero_all [] = refl
+zero_all (b ∷ s) = ap (λ t. eqb b 0 && t) (zero_all s)
 
 pub zero_alone : (a b : List ℕ) (r s : Bool) → r ≡ all_zero a → r ≡ true → s ≡ all_zero b → s ≡ alone a b
 unfolding alone
@@ -80,10 +67,10 @@ module _ (tag : ℕ) (id eidr : List ℕ) (z : Bool) (ez : z ≡ all_zero eidr) 
     reserved_other u = rw (← ez, not-false z t, ← ec, u)
 
 -- ---- sub-segments: a byte fits
-pub sub_over : (s : SubSegments) (x : SubSegment) → s ≡ SubSegments.Is x → (w : ℕ) → w ≡ x.sub_segment_num → 255 < w → w < 256 → false ≡ within (sub_fields s)
+pub sub_over : (s : Option SubSegment) (x : SubSegment) → s ≡ Some x → (w : ℕ) → w ≡ x.sub_segment_num → 255 < w → w < 256 → false ≡ within (sub_fields s)
 sub_over s x e w ew h l = absurd (omega arith)
 
-pub sub_byte : (s : SubSegments) (x : SubSegment) → s ≡ SubSegments.Is x → (w v : ℕ) → w ≡ x.sub_segment_num → w ≤ 255 → v ≡ x.sub_segments_expected
+pub sub_byte : (s : Option SubSegment) (x : SubSegment) → s ≡ Some x → (w v : ℕ) → w ≡ x.sub_segment_num → w ≤ 255 → v ≡ x.sub_segments_expected
     → ltb v 256 ≡ within (sub_fields s)
 sub_byte s x e w v ew h ev = rw (e, ev, lt-ltb x.sub_segment_num 256 (omega arith)) (go (ltb x.sub_segments_expected 256))
   where
@@ -95,7 +82,7 @@ and_tt : (b : Bool) → b ≡ b && true
 and_tt true = refl
 and_tt false = refl
 
-pub duration_byte : (d : SegmentationDuration) (t : ℕ) → d ≡ SegmentationDuration.Ticks t → ltb t (2 ^ 40) ≡ within (duration_fields d)
+pub duration_byte : (d : Option ℕ) (t : ℕ) → d ≡ Some t → ltb t (2 ^ 40) ≡ within (duration_fields d)
 duration_byte d t e = rw e (and_tt (ltb t (2 ^ 40)))
 
 pub mode_byte : (k : SegmentationMode) (n : ℕ) (cs : List SegmentationComponent) (r : Bool) → k ≡ SegmentationMode.Component n → n < 256 → r ≡ within (components_fields (take n cs))
@@ -143,17 +130,9 @@ module _ (cs : List SegmentationComponent) (i : ℕ) (inv : within (components_f
   pub parts_stop : 0x1ffffffff < m.pts_offset → false ≡ within (components_fields cs)
   parts_stop l = sym (part_next ∙ rw (le-ltb m.pts_offset (2 ^ 33) (omega arith))) ∙ inv
 
-drop_none : {A : Type 0} (i : ℕ) (l : List A) → length l ≤ i → drop i l ≡ []
-drop_none zero [] h = refl
-drop_none zero (x ∷ l) h = absurd (omega arith)
-drop_none (suc i) [] h = refl
-drop_none (suc i) (x ∷ l) h = drop_none i l (omega arith)
-
-pub parts_end : (cs : List SegmentationComponent) (n i : ℕ) → within (components_fields (drop i (take n cs))) ≡ within (components_fields (take n cs)) → n ≤ i
-    → true ≡ within (components_fields (take n cs))
-parts_end cs n i inv h =
-    let d : drop i (take n cs) ≡ [] = drop_none i (take n cs) (omega (arith, length-take n cs)) in
-    sym (ap (λ (l : List SegmentationComponent). within (components_fields l)) d) ∙ inv
+pub parts_end : (cs : List SegmentationComponent) (i : ℕ) → within (components_fields (drop i cs)) ≡ within (components_fields cs) → length cs ≤ i
+    → true ≡ within (components_fields cs)
+parts_end cs i inv h = sym (ap (λ (l : List SegmentationComponent). within (components_fields l)) (drop_of_length-le cs h)) ∙ inv
 
 -- ---- flags and type id
 module _ (i : SegmentationDetail) (p a : Bool) (ep : p ≡ by_program i.segmentation_mode) (ea : a ≡ agrees i.program_segmentation_flag p) where
@@ -215,7 +194,7 @@ module _ (u : SegmentationUpid) (eidr lent : List ℕ) where
           unfolding writable_upid
           upid_five e = rw (ne_eqb u.upid_type 10 ne, ← ez, not-false z t, ne_eqb u.upid_type 0 k, ne_eqb u.bytes.len 0 l, eq-eqb u.upid_type 5 e)
 
-          pub upid_read_lem : (u.upid_type ≡ 5 → ⊥) → (part : List ℕ) (w : ℕ) (r : UpidRead) → part ≡ viewed lent u.bytes → w ≡ written_type u → r ≡ check_of w part
+          pub upid_read_lem : (u.upid_type ≡ 5 → ⊥) → (part : List ℕ) (w : ℕ) (r : Result ℕ Refusal) → part ≡ viewed lent u.bytes → w ≡ written_type u → r ≡ check_of w part
               → accepts r ≡ writable_upid u eidr lent
           unfolding writable_upid
           upid_read_lem f part w r ep ew er =

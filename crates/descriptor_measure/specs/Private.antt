@@ -1,23 +1,22 @@
 -- What a segmentation descriptor's table has in its fields, part by part (`fields_are` in proofs/Fields.antt), how many bytes they take, and what refuses them. The
 -- contracts of the functions that test and store the parts say these; no public contract does.
-use Rattle.std.specs.Prelude.{ℕ, ◌+◌, Bool, true, false, ◌&&◌, List, [], ◌∷◌, ◌++◌, ◌≡◌, length, take}
+use Rattle.std.specs.Prelude.{ℕ, ◌+◌, Bool, true, false, ◌&&◌, List, [], ◌∷◌, ◌++◌, ◌≡◌, length, take, Some, None, Option}
 use Rattle.names.specs.Flags.{restrictions_bits}
 use Rattle.names.specs.Segmentation.{segmentation_number}
 use Rattle.table.specs.Table.{flag_number}
 use Rattle.table.specs.Writing.{Field, bits, run, rest, within, refusal_in}
 use Rattle.descriptor.specs.Segmentation.{component_count, by_program, lasting, unrestricted, sub_bytes, front_of, mode_size, duration_size}
 use Rattle.descriptor.specs.Full.{filled}
-use Rattle.descriptor.specs.declared.segmentation.DeliveryRestrictionFlags.{DeliveryRestrictionFlags}
 use Rattle.descriptor.specs.declared.segmentation.SegmentationComponent.{SegmentationComponent}
 use Rattle.descriptor.specs.declared.segmentation.SegmentationDescriptor.{SegmentationDescriptor}
 use Rattle.descriptor.specs.declared.segmentation.DescriptorDetail.{DescriptorDetail}
 use Rattle.descriptor.specs.declared.segmentation.DescriptorDetail.TheVariants.{Cancel, Active}
-use Rattle.descriptor.specs.declared.segmentation.SegmentationDuration.{SegmentationDuration}
 use Rattle.descriptor.specs.declared.segmentation.SegmentationDetail.{SegmentationDetail}
 use Rattle.descriptor.specs.declared.segmentation.SegmentationMode.{SegmentationMode}
 use Rattle.descriptor.specs.declared.segmentation.SegmentationUpid.{SegmentationUpid}
-use Rattle.descriptor.specs.declared.segmentation.SubSegments.{SubSegments}
 use Rattle.descriptor_measure.specs.Writing.{written_upid, segmentation_made}
+use Rattle.descriptor.specs.declared.segmentation.DeliveryRestrictions.{DeliveryRestrictions}
+use Rattle.descriptor.specs.declared.segmentation.SubSegment.{SubSegment}
 
 abbrev pub head_fields : ℕ → Bool → List Field
 head_fields event cancel = bits 32 event ∷ (bits 1 (flag_number cancel) ∷ (bits 7 127 ∷ []))
@@ -25,9 +24,9 @@ head_fields event cancel = bits 32 event ∷ (bits 1 (flag_number cancel) ∷ (b
 abbrev pub flag_fields : Bool → Bool → Bool → List Field
 flag_fields program lasts free = bits 1 (flag_number program) ∷ (bits 1 (flag_number lasts) ∷ (bits 1 (flag_number free) ∷ []))
 
-abbrev pub delivery_fields : DeliveryRestrictionFlags → List Field
-delivery_fields DeliveryRestrictionFlags.None = bits 5 31 ∷ []
-delivery_fields (DeliveryRestrictionFlags.DeliveryRestrictions r) =
+abbrev pub delivery_fields : Option DeliveryRestrictions → List Field
+delivery_fields None = bits 5 31 ∷ []
+delivery_fields (Some r) =
     bits 1 (flag_number r.web_delivery_allowed_flag)
     ∷ (bits 1 (flag_number r.no_regional_blackout_flag)
     ∷ (bits 1 (flag_number r.archive_allowed_flag)
@@ -45,16 +44,16 @@ abbrev pub mode_fields : SegmentationMode → List SegmentationComponent → Lis
 mode_fields SegmentationMode.Program cs = []
 mode_fields (SegmentationMode.Component n) cs = bits 8 n ∷ components_fields cs
 
-abbrev pub duration_fields : SegmentationDuration → List Field
-duration_fields SegmentationDuration.Absent = []
-duration_fields (SegmentationDuration.Ticks t) = bits 40 t ∷ []
+abbrev pub duration_fields : Option ℕ → List Field
+duration_fields None = []
+duration_fields (Some t) = bits 40 t ∷ []
 
 abbrev pub upid_fields : SegmentationUpid → List Field
 upid_fields u = bits 8 u.upid_type ∷ (bits 8 u.bytes.len ∷ (run u.bytes.len u.bytes.at ∷ []))
 
-abbrev pub sub_fields : SubSegments → List Field
-sub_fields SubSegments.Absent = rest 0 ∷ []
-sub_fields (SubSegments.Is x) = rest 2 ∷ (bits 8 x.sub_segment_num ∷ (bits 8 x.sub_segments_expected ∷ []))
+abbrev pub sub_fields : Option SubSegment → List Field
+sub_fields None = rest 0 ∷ []
+sub_fields (Some x) = rest 2 ∷ (bits 8 x.sub_segment_num ∷ (bits 8 x.sub_segments_expected ∷ []))
 
 abbrev pub back_fields : SegmentationDetail → List Field
 back_fields i =

@@ -1,12 +1,11 @@
 -- What the descriptor writer makes of a readable item: its bytes, or the number of a refusal. 01, "Canonical form and writer".
 -- An item is a descriptor with what stands beside it: the identifier of a reserved one, the components and the EIDR of a segmentation descriptor, and
 -- the lent bytes that its views refer to.
-use Rattle.std.specs.Prelude.{ℕ, ◌+◌, Bool, true, false, not, ◌&&◌, List, [], ◌∷◌, ◌++◌, leb, ltb, eqb, length, take}
+use Rattle.std.specs.Prelude.{ℕ, ◌+◌, Bool, true, false, not, ◌&&◌, List, [], ◌∷◌, ◌++◌, leb, ltb, eqb, length, take, Ok, Err, None, Result}
 use Rattle.table.specs.Bits.{pick}
 use Rattle.table.specs.Lent.{lies_in, viewed}
 use Rattle.table.specs.Writing.{Made, made, refused, make}
 use Rattle.upid.specs.Upid.{check_of}
-use Rattle.upid.specs.declared.UpidRead.{UpidRead}
 use Rattle.descriptor.specs.Descriptor.{is_cuei}
 pub use Rattle.descriptor.specs.Descriptor.{cuei}
 use Rattle.descriptor.specs.Plain.{avail, dtmf, time, private_table}
@@ -21,6 +20,7 @@ use Rattle.descriptor.specs.declared.segmentation.SegmentationDescriptor.{Segmen
 use Rattle.descriptor.specs.declared.segmentation.DescriptorDetail.{DescriptorDetail}
 use Rattle.descriptor.specs.declared.segmentation.SegmentationUpid.{SegmentationUpid}
 use Rattle.descriptor.specs.declared.full.Beside.{Beside}
+use Rattle.upid.specs.declared.Refusal.{Refusal}
 
 -- ---- the envelope: "tag, L, identifier of 4", and the payload
 
@@ -60,9 +60,9 @@ written_upid u = pick (eqb u.upid_type 10) (record { upid_type = 10; bytes = rec
 unfoldable pub upid_source : SegmentationUpid → List ℕ → List ℕ → List ℕ
 upid_source u eidr lent = pick (eqb u.upid_type 10) eidr lent
 
-abbrev pub accepts : UpidRead → Bool
-accepts (UpidRead.Fine upid_type_number) = true
-accepts (UpidRead.Refused r) = false
+abbrev pub accepts : Result ℕ Refusal → Bool
+accepts (Ok upid_type_number) = true
+accepts (Err r) = false
 
 -- refusal 33 of a UPID
 unfoldable pub writable_upid : SegmentationUpid → List ℕ → List ℕ → Bool

@@ -11,10 +11,10 @@ ghost use Rattle.descriptor_measure.specs.Writing.{segmentation_made};
 use crate::is_zero;
 use crate::upids::is_writable_upid;
 use descriptor::segmentation::{
-    DeliveryRestrictionFlags, DescriptorDetail, MAX_COMPONENTS, SegmentationComponent,
-    SegmentationDescriptor, SegmentationDetail, SegmentationDuration, SegmentationMode,
-    SubSegments,
+    DeliveryRestrictions, DescriptorDetail, MAX_COMPONENTS, SegmentationComponent,
+    SegmentationDescriptor, SegmentationDetail, SegmentationMode, SubSegment,
 };
+use names::numbering::Numbered;
 use table::lent::lies_in;
 use table::numbers::wide;
 use upid::MAX_UPID;
@@ -30,22 +30,16 @@ pub fn by_program(mode: SegmentationMode) -> bool
     }
 }
 
-pub fn lasts(duration: SegmentationDuration) -> bool
+pub fn lasts(duration: Option<u64>) -> bool
     ensures { result ≡ lasting duration }
 {
-    match duration {
-        SegmentationDuration::Absent => false,
-        SegmentationDuration::Ticks(_) => true,
-    }
+    duration.is_some()
 }
 
-pub fn is_free(delivery: DeliveryRestrictionFlags) -> bool
+pub fn is_free(delivery: Option<DeliveryRestrictions>) -> bool
     ensures { result ≡ unrestricted delivery }
 {
-    match delivery {
-        DeliveryRestrictionFlags::None => true,
-        DeliveryRestrictionFlags::DeliveryRestrictions(_) => false,
-    }
+    delivery.is_none()
 }
 
 fn agree(flag: bool, says: bool) -> bool
@@ -81,13 +75,10 @@ fn components_fit(components: [SegmentationComponent; MAX_COMPONENTS], n: usize)
     requires { n < 256 }
     ensures { result ≡ within (components_fields (take n components)) }
 {
-    let mut i: usize = 0;
-    while i < n {
-        let component = components[i];
+    for &component in &components[..n] {
         if 0x1_ffff_ffff < component.pts_offset {
             return false;
         }
-        i += 1;
     }
     true
 }
@@ -101,21 +92,21 @@ fn mode_fits(mode: SegmentationMode, components: [SegmentationComponent; MAX_COM
     }
 }
 
-fn duration_fits(duration: SegmentationDuration) -> bool
+fn duration_fits(duration: Option<u64>) -> bool
     ensures { result ≡ within (duration_fields duration) }
 {
     match duration {
-        SegmentationDuration::Absent => true,
-        SegmentationDuration::Ticks(t) => t < 0x100_0000_0000,
+        None => true,
+        Some(t) => t < 0x100_0000_0000,
     }
 }
 
-fn sub_segments_fit(sub_segments: SubSegments) -> bool
+fn sub_segments_fit(sub_segments: Option<SubSegment>) -> bool
     ensures { result ≡ within (sub_fields sub_segments) }
 {
     match sub_segments {
-        SubSegments::Absent => true,
-        SubSegments::Is(x) => {
+        None => true,
+        Some(x) => {
             if 255 < wide(x.sub_segment_num) {
                 return false;
             }
@@ -148,7 +139,7 @@ fn numbers_fit(i: SegmentationDetail) -> bool
     if !duration_fits(duration) {
         return false;
     }
-    if 255 < wide(type_id.id()) {
+    if 255 < wide(type_id.into()) {
         return false;
     }
     sub_segments_fit(sub_segments)
@@ -280,20 +271,14 @@ pub fn mode_size(mode: SegmentationMode) -> usize
     }
 }
 
-pub fn duration_size(duration: SegmentationDuration) -> usize
+pub fn duration_size(duration: Option<u64>) -> usize
     ensures { (result ≡ duration_size duration) × (result < 6) }
 {
-    match duration {
-        SegmentationDuration::Absent => 0,
-        SegmentationDuration::Ticks(_) => 5,
-    }
+    if duration.is_some() { 5 } else { 0 }
 }
 
-pub fn sub_size(sub_segments: SubSegments) -> usize
+pub fn sub_size(sub_segments: Option<SubSegment>) -> usize
     ensures { (result ≡ sub_bytes sub_segments) × (result < 3) }
 {
-    match sub_segments {
-        SubSegments::Absent => 0,
-        SubSegments::Is(_) => 2,
-    }
+    if sub_segments.is_some() { 2 } else { 0 }
 }

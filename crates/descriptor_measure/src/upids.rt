@@ -5,7 +5,7 @@ ghost use Rattle.descriptor_measure.specs.Writing.{written_type, written_upid, w
 use crate::is_zero;
 use descriptor::segmentation::SegmentationUpid;
 use table::lent::view;
-use upid::{UPID_EIDR, UpidRead, check_upid};
+use upid::{UPID_EIDR, check_upid};
 
 // The type as it is written: 5 of an eight-byte ISAN.
 pub fn written_type(u: SegmentationUpid) -> u8
@@ -42,8 +42,8 @@ pub(crate) fn is_writable_upid(u: SegmentationUpid, eidr: [u8; 12], lent: &[u8])
     }
     let part = view(lent, bytes);
     match check_upid(written_type(u), part) {
-        UpidRead::Fine(_) => true,
-        UpidRead::Refused(_) => false,
+        Ok(_) => true,
+        Err(_) => false,
     }
 }
 

@@ -18,7 +18,6 @@ use Rattle.descriptor.specs.Plain.{avail, dtmf, time, private_table}
 use Rattle.descriptor.specs.Full.{beside_read, identifier_read, full_of}
 use Rattle.descriptor.specs.declared.Descriptor.{Descriptor}
 use Rattle.descriptor.specs.declared.Descriptor.TheVariants.{Avail, Dtmf, Segmentation, Time, Reserved}
-use Rattle.descriptor.specs.declared.DescriptorRead.TheVariants.{Is}
 use Rattle.descriptor.specs.declared.full.Beside.{Beside}
 use Rattle.descriptor.specs.declared.full.FullDescriptor.{FullDescriptor}
 use Rattle.descriptor.proofs.Tags.{is_foreign, is_avail, is_dtmf, is_segmentation, is_time, is_other}
@@ -32,12 +31,13 @@ use Rattle.descriptor_round_trips.specs.Trips.{full_in, ReadAs}
 use Rattle.descriptor_round_trips.proofs.Canon.{canonical_enveloped}
 use Rattle.descriptor_round_trips.proofs.PlainCanon.{avail_read_write, dtmf_read_write, time_read_write, reserved_read_write}
 use Rattle.descriptor_round_trips.proofs.SegmentCanon.{segmentation_payload_read_write}
+use Rattle.std.proofs.Common.{Ok}
 
 -- ---- the envelope
 
 -- the reading of a whole descriptor, from that of its payload
-pub full_read : (tag : ℕ) (id p : List ℕ) (d : Descriptor) → descriptor_of tag id p ≡ Is d
-    → full_of tag id p ≡ record { read = Is d; identifier = identifier_read (Is d) id; beside = beside_read (Is d) p }
+pub full_read : (tag : ℕ) (id p : List ℕ) (d : Descriptor) → descriptor_of tag id p ≡ Ok d
+    → full_of tag id p ≡ record { read = Ok d; identifier = identifier_read (Ok d) id; beside = beside_read (Ok d) p }
 unfolding full_of
 full_read tag id p d e = rw e
 
@@ -90,11 +90,11 @@ over n a b c = omega (arith, b, c)
 -- the payload p of a descriptor with this tag and identifier is what is written of its reading
 pub record PayloadIs (tag : ℕ) (id p : List ℕ) : Type 0 where
   pub read : Descriptor
-  pub reading : descriptor_of tag id p ≡ Is read
+  pub reading : descriptor_of tag id p ≡ Ok read
   pub tagged : tag_of read ≡ tag
-  pub identified : identifier_of read (identifier_read (Is read) id) ≡ id
-  pub writes : payload_made read (identifier_read (Is read) id) (beside_read (Is read) p) p ≡ made p
-  pub places : count_beside read ≤ length (beside_read (Is read) p).components
+  pub identified : identifier_of read (identifier_read (Ok read) id) ≡ id
+  pub writes : payload_made read (identifier_read (Ok read) id) (beside_read (Ok read) p) p ≡ made p
+  pub places : count_beside read ≤ length (beside_read (Ok read) p).components
 
 module _ (tag : ℕ) (id p : List ℕ) (four : length id ≡ 4) (a : AllBytes p) where
   foreign : reserved_of tag p ≡ descriptor_of tag id p → is_cuei id && ltb tag 4 ≡ false → canonical_by private_table p ≡ true → PayloadIs tag id p
@@ -148,7 +148,7 @@ module _ (tag : ℕ) (id p : List ℕ) (four : length id ≡ 4) (a : AllBytes p)
 
 pub record FullBack (s : List ℕ) : Type 0 where
   pub read : Descriptor
-  pub full : full_in s ≡ record { read = Is read; identifier = identifier_read (Is read) (take 4 (drop 2 s)); beside = beside_read (Is read) (drop 6 s) }
+  pub full : full_in s ≡ record { read = Ok read; identifier = identifier_read (Ok read) (take 4 (drop 2 s)); beside = beside_read (Ok read) (drop 6 s) }
   pub writes : descriptor_made read (full_in s).identifier (full_in s).beside (drop 6 s) ≡ made s
   pub places : count_beside read ≤ length (full_in s).beside.components
 
@@ -168,7 +168,7 @@ full_descriptor_read_write s a c =
       full = w;
       writes =
           ap (λ (x : FullDescriptor). descriptor_made r.read x.identifier x.beside p) w
-          ∙ ap₂ (λ (k : ℕ) (i : List ℕ). enveloped_made k i (payload_made r.read (identifier_read (Is r.read) id) (beside_read (Is r.read) p) p)) r.tagged r.identified
+          ∙ ap₂ (λ (k : ℕ) (i : List ℕ). enveloped_made k i (payload_made r.read (identifier_read (Ok r.read) id) (beside_read (Ok r.read) p) p)) r.tagged r.identified
           ∙ ap (enveloped_made tag id) r.writes ∙ rw (le-leb (length p + 4) 254 f.1) (ap made (sym f.0));
       places = subst (λ (x : FullDescriptor). count_beside r.read ≤ length x.beside.components) (sym w) r.places;
     }

@@ -26,11 +26,9 @@ use Rattle.descriptor.specs.declared.segmentation.SegmentationComponent.{Segment
 use Rattle.descriptor.specs.declared.segmentation.SegmentationDescriptor.{SegmentationDescriptor}
 use Rattle.descriptor.specs.declared.segmentation.DescriptorDetail.{DescriptorDetail}
 use Rattle.descriptor.specs.declared.segmentation.DescriptorDetail.TheVariants.{Cancel, Active}
-use Rattle.descriptor.specs.declared.segmentation.SegmentationDuration.{SegmentationDuration}
 use Rattle.descriptor.specs.declared.segmentation.SegmentationDetail.{SegmentationDetail}
 use Rattle.descriptor.specs.declared.segmentation.SegmentationMode.{SegmentationMode}
 use Rattle.descriptor.specs.declared.segmentation.SegmentationUpid.{SegmentationUpid}
-use Rattle.descriptor.specs.declared.segmentation.SubSegments.{SubSegments}
 use Rattle.descriptor.specs.declared.full.Beside.{Beside}
 use Rattle.descriptor_measure.specs.Writing.{count_beside, enveloped, enveloped_made, alone, writable_reserved, writable_segment, segmentation_made, payload_made, descriptor_made, tag_of, identifier_of, upid_source, written, written_type, written_upid}
 use Rattle.descriptor_measure.specs.Private.{delivery_fields, components_fields, mode_fields, duration_fields, upid_fields, sub_fields, back_fields}
@@ -41,6 +39,8 @@ use Rattle.descriptor_round_trips.specs.Making.{view_in, fit, component_numbers,
 use Rattle.descriptor_round_trips.specs.Trips.{Handed}
 use Rattle.descriptor_round_trips.proofs.Payloads.{counted, payload_write_read, written_if_read}
 use Rattle.descriptor_round_trips.proofs.Remade.{and_last, with_upid, active_seen}
+use Rattle.std.proofs.Common.{Some, None, Option}
+use Rattle.descriptor.specs.declared.segmentation.SubSegment.{SubSegment}
 
 and_none : (b : Bool) → b && false ≡ false
 and_none true = refl
@@ -74,13 +74,13 @@ mode_fits : (k : SegmentationMode) (places : List SegmentationComponent) → wit
 mode_fits SegmentationMode.Program places = refl
 mode_fits (SegmentationMode.Component n) places = ap (λ (b : Bool). ltb n (2 ^ 8) && b) (components_fit (take n places))
 
-duration_fits : (d : SegmentationDuration) → within (duration_fields d) ≡ ltb (ticks d) (2 ^ 40)
-duration_fits SegmentationDuration.Absent = refl
-duration_fits (SegmentationDuration.Ticks t) = and_last (ltb t (2 ^ 40))
+duration_fits : (d : Option ℕ) → within (duration_fields d) ≡ ltb (ticks d) (2 ^ 40)
+duration_fits None = refl
+duration_fits (Some t) = and_last (ltb t (2 ^ 40))
 
-sub_fits : (s : SubSegments) → within (sub_fields s) ≡ ltb (sub_segment s).sub_segment_num (2 ^ 8) && (ltb (sub_segment s).sub_segments_expected (2 ^ 8) && true)
-sub_fits SubSegments.Absent = refl
-sub_fits (SubSegments.Is x) = refl
+sub_fits : (s : Option SubSegment) → within (sub_fields s) ≡ ltb (sub_segment s).sub_segment_num (2 ^ 8) && (ltb (sub_segment s).sub_segments_expected (2 ^ 8) && true)
+sub_fits None = refl
+sub_fits (Some x) = refl
 
 module _ (event : ℕ) (i : SegmentationDetail) (places : List SegmentationComponent) where
   abbrev counts : List SegmentationComponent

@@ -1,6 +1,7 @@
 -- The payload that is written of a descriptor is the canonical payload that reads as it, and there is no other.
 --     payload_write_read       what is written reads as what was handed in, and is canonical
 --     written_if_read    a canonical payload that reads as what is handed in is what is written of it
+use Rattle.upid.specs.declared.Refusal.{Refusal}
 use Prim.Native.Nat.{ℕ, ◌+◌, ◌/◌, ◌≤◌}
 use mathlib.Core.Bool.{Bool, true}
 use mathlib.Core.List.{List}
@@ -17,7 +18,6 @@ use Rattle.descriptor.specs.Segmentation.{writable_detail, segmentation}
 use Rattle.descriptor.specs.Full.{full_of, identifier_read, beside_read}
 use Rattle.descriptor.specs.declared.Descriptor.{Descriptor}
 use Rattle.descriptor.specs.declared.Descriptor.TheVariants.{Avail, Dtmf, Segmentation, Time, Reserved}
-use Rattle.descriptor.specs.declared.DescriptorRead.TheVariants.{Is}
 use Rattle.descriptor.specs.declared.full.Beside.{Beside}
 use Rattle.descriptor.specs.declared.full.FullDescriptor.{FullDescriptor}
 use Rattle.canonical_form.specs.Descriptor.{canonical_payload}
@@ -31,6 +31,7 @@ use Rattle.descriptor_round_trips.proofs.Canon.{avail_canonical, dtmf_canonical,
 use Rattle.descriptor_round_trips.proofs.PlainTrips.{ReadsBack, avail_payload_write_read, dtmf_payload_write_read, time_payload_write_read, reserved_payload_write_read}
 use Rattle.descriptor_round_trips.proofs.SegmentBack.{segmentation_payload_write_read}
 use Rattle.descriptor_round_trips.proofs.FullTrips.{payload_is, full_read}
+use Rattle.std.proofs.Common.{Ok, Result}
 
 -- ---- what is written
 
@@ -91,16 +92,16 @@ module _ (d : Descriptor) (id : List ℕ) (beside : Beside) (lent : List ℕ) (t
       let x : Descriptor = k.read in
       let w = full_read tag own p x k.reading in
       let z : x ≡ q.again = one x q.again (sym (ap (λ (x : FullDescriptor). x.read) w) ∙ q.reading) in
-      let same : SameReading p x (identifier_read (Is x) own) (beside_read (Is x) p) lent d id beside =
+      let same : SameReading p x (identifier_read (Ok x) own) (beside_read (Ok x) p) lent d id beside =
       subst (λ (x : FullDescriptor). SameReading p k.read x.identifier x.beside lent d id beside) w
       (subst (λ (x : Descriptor). SameReading p x (full_of tag own p).identifier (full_of tag own p).beside lent d id beside) (sym z) q.same) in
-      let writes : payload_made x id (beside_read (Is x) p) p ≡ made p = subst (λ (i : List ℕ). payload_made x i (beside_read (Is x) p) p ≡ made p) same.identifiers k.writes in
-      let views = same_view p lent x d same.values same.bytes (payload_told p p id (beside_read (Is x) p) x k.places writes) there in
+      let writes : payload_made x id (beside_read (Ok x) p) p ≡ made p = subst (λ (i : List ℕ). payload_made x i (beside_read (Ok x) p) p ≡ made p) same.identifiers k.writes in
+      let views = same_view p lent x d same.values same.bytes (payload_told p p id (beside_read (Ok x) p) x k.places writes) there in
       let f = same_envelope x d id same.values in (
-        alike_payload p lent id (beside_read (Is x) p) beside same.eidrs x d k.places same.values views same.components p writes,
+        alike_payload p lent id (beside_read (Ok x) p) beside same.eidrs x d k.places same.values views same.components p writes,
         sym f.0 ∙ k.tagged,
         sym f.1 ∙ ap (identifier_of x) (sym same.identifiers) ∙ k.identified,
       )
     where
-      one : (x y : Descriptor) → Is x ≡ Is y → x ≡ y
+      one : (x y : Descriptor) → ◌≡◌ {A = Result Descriptor Refusal} (Ok x) (Ok y) → x ≡ y
       one x y e = cc

@@ -17,11 +17,11 @@ use Rattle.table.proofs.Structure as laws
 use Rattle.descriptor.specs.Descriptor.{avail_of, dtmf_of, time_of, reserved_of}
 use Rattle.descriptor.specs.Plain.{avail, dtmf, time, private_table}
 use Rattle.descriptor.specs.declared.Descriptor.TheVariants.{Avail, Dtmf, Time, Reserved}
-use Rattle.descriptor.specs.declared.DescriptorRead.TheVariants.{Is}
 use Rattle.descriptor.specs.declared.plain.AvailDescriptor.{AvailDescriptor}
 use Rattle.descriptor.specs.declared.plain.DTMFDescriptor.{DTMFDescriptor}
 use Rattle.descriptor.specs.declared.plain.TimeDescriptor.{TimeDescriptor}
 use Rattle.descriptor.proofs.Structures.{avail_structure, dtmf_structure, dtmf_moved, time_structure, private_structure}
+use Rattle.std.proofs.Common.{Ok}
 
 -- ---- any table whose values are all writable
 module _ {X : Type 0} (t : Table X) (st : laws.Structure t) (always : (x : X) → st.writable x ≡ true) where
@@ -54,13 +54,13 @@ module _ {X : Type 0} (t : Table X) (st : laws.Structure t) (always : (x : X) �
       go (short x y) h = let z : false ≡ true = rw h at j.0 in zero_one cc
 
 -- ---- each kind, by its reader
-pub avail_write_read : (writable : Bool) (lent : List ℕ) (x : AvailDescriptor) (b : List ℕ) → make avail writable lent x ≡ made b → avail_of b ≡ Is (Avail x)
+pub avail_write_read : (writable : Bool) (lent : List ℕ) (x : AvailDescriptor) (b : List ℕ) → make avail writable lent x ≡ made b → avail_of b ≡ Ok (Avail x)
 unfolding avail_of
 avail_write_read writable lent x b e =
     let n : length b ≡ 4 = laws.write_size avail avail_structure lent x b tt (writable_made avail avail_structure (λ x. refl) writable lent x b e) in
     rw (le-ltb (length b) 4 (omega arith), (table_write_read avail avail_structure (λ x. refl) writable lent x b e tt).0)
 
-pub time_write_read : (writable : Bool) (lent : List ℕ) (x : TimeDescriptor) (b : List ℕ) → make time writable lent x ≡ made b → time_of b ≡ Is (Time x)
+pub time_write_read : (writable : Bool) (lent : List ℕ) (x : TimeDescriptor) (b : List ℕ) → make time writable lent x ≡ made b → time_of b ≡ Ok (Time x)
 unfolding time_of
 time_write_read writable lent x b e =
     let n : length b ≡ 12 = laws.write_size time time_structure lent x b tt (writable_made time time_structure (λ x. refl) writable lent x b e) in
@@ -73,7 +73,7 @@ viewed_at s at len h = rw (le-leb (at + len) (length s) h)
 
 module _ (writable : Bool) (lent : List ℕ) (b : List ℕ) where
   pub dtmf_write_read : (x : DTMFDescriptor) → AllBytes lent → make dtmf writable lent x ≡ made b
-      → (dtmf_of b ≡ Is (Dtmf (dtmf_moved x))) × (viewed b (dtmf_moved x).dtmf_chars ≡ viewed lent x.dtmf_chars)
+      → (dtmf_of b ≡ Ok (Dtmf (dtmf_moved x))) × (viewed b (dtmf_moved x).dtmf_chars ≡ viewed lent x.dtmf_chars)
   unfolding dtmf_of dtmf number reserved part
   dtmf_write_read x a e =
       let len = x.dtmf_chars.len in
@@ -89,7 +89,7 @@ module _ (writable : Bool) (lent : List ℕ) (b : List ℕ) where
       )
 
   pub reserved_write_read : (tag : ℕ) (v : View) → AllBytes lent → make private_table writable lent v ≡ made b
-      → (reserved_of tag b ≡ Is (Reserved tag (record { at = 0; len = v.len }))) × (viewed b (record { at = 0; len = v.len }) ≡ viewed lent v)
+      → (reserved_of tag b ≡ Ok (Reserved tag (record { at = 0; len = v.len }))) × (viewed b (record { at = 0; len = v.len }) ≡ viewed lent v)
   unfolding reserved_of private_table remaining part
   reserved_write_read tag v a e =
       let f = writable_made private_table private_structure (λ x. refl) writable lent v b e in

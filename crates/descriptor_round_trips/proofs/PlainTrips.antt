@@ -17,7 +17,6 @@ use Rattle.descriptor.specs.Plain.{avail, dtmf, time, private_table}
 use Rattle.descriptor.specs.Full.{blank_beside, beside_read, identifier_read}
 use Rattle.descriptor.specs.declared.Descriptor.{Descriptor}
 use Rattle.descriptor.specs.declared.Descriptor.TheVariants.{Avail, Dtmf, Time, Reserved}
-use Rattle.descriptor.specs.declared.DescriptorRead.TheVariants.{Is}
 use Rattle.descriptor.specs.declared.plain.AvailDescriptor.{AvailDescriptor}
 use Rattle.descriptor.specs.declared.plain.DTMFDescriptor.{DTMFDescriptor}
 use Rattle.descriptor.specs.declared.plain.TimeDescriptor.{TimeDescriptor}
@@ -26,12 +25,13 @@ use Rattle.descriptor.proofs.Structures.{dtmf_moved}
 use Rattle.canonical_form.specs.Same.{SameReading}
 use Rattle.descriptor_measure.specs.Writing.{enveloped, enveloped_made, all_zero, alone, writable_reserved, payload_made, tag_of, identifier_of}
 use Rattle.descriptor_round_trips.proofs.PlainLaws.{avail_write_read, time_write_read, dtmf_write_read, reserved_write_read}
+use Rattle.std.proofs.Common.{Ok}
 
 -- the payload that was written, read again: equal to what was handed in
 pub record ReadsBack (d : Descriptor) (id : List ℕ) (beside : Beside) (lent p : List ℕ) : Type 0 where
   pub again : Descriptor
-  pub reading : descriptor_of (tag_of d) (identifier_of d id) p ≡ Is again
-  pub same : SameReading p again (identifier_read (Is again) (identifier_of d id)) (beside_read (Is again) p) lent d id beside
+  pub reading : descriptor_of (tag_of d) (identifier_of d id) p ≡ Ok again
+  pub same : SameReading p again (identifier_read (Ok again) (identifier_of d id)) (beside_read (Ok again) p) lent d id beside
 
 -- ---- the envelope, undone
 pub unenveloped : (tag : ℕ) (id : List ℕ) (m : Made) (s : List ℕ) → enveloped_made tag id m ≡ made s

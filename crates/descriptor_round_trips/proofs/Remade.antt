@@ -12,16 +12,16 @@ use Rattle.table.specs.Bits.{bytes_of}
 use Rattle.table.specs.Writing.{Field, bits, run, rest, seen, within, Content, number, bytes, count, content, contents, print, made, make_of}
 use Rattle.table.proofs.Lists.{zero_one}
 use Rattle.table.proofs.Structure as laws
-use Rattle.descriptor.specs.declared.segmentation.DeliveryRestrictionFlags.{DeliveryRestrictionFlags}
 use Rattle.descriptor.specs.declared.segmentation.SegmentationComponent.{SegmentationComponent}
-use Rattle.descriptor.specs.declared.segmentation.SegmentationDuration.{SegmentationDuration}
 use Rattle.descriptor.specs.declared.segmentation.SegmentationDetail.{SegmentationDetail}
 use Rattle.descriptor.specs.declared.segmentation.SegmentationMode.{SegmentationMode}
 use Rattle.descriptor.specs.declared.segmentation.SegmentationUpid.{SegmentationUpid}
-use Rattle.descriptor.specs.declared.segmentation.SubSegments.{SubSegments}
 use Rattle.descriptor_measure.specs.Private.{delivery_fields, components_fields, mode_fields, duration_fields, upid_fields, sub_fields, back_fields}
 use Rattle.descriptor_measure.proofs.Fields.{front_fields}
 use Rattle.descriptor_measure.proofs.Refusals.{seen_append}
+use Rattle.std.proofs.Common.{Some, None, Option}
+use Rattle.descriptor.specs.declared.segmentation.DeliveryRestrictions.{DeliveryRestrictions}
+use Rattle.descriptor.specs.declared.segmentation.SubSegment.{SubSegment}
 
 -- ---- fields that hold the same
 
@@ -81,9 +81,9 @@ contents_append l (f ∷ fs) gs = ap (λ (cs : List Content). content l f ∷ cs
 
 -- ---- an active segmentation's fields: those before its UPID's and those after have no view
 
-dry_delivery : (d : DeliveryRestrictionFlags) → dry (delivery_fields d) ≡ true
-dry_delivery DeliveryRestrictionFlags.None = refl
-dry_delivery (DeliveryRestrictionFlags.DeliveryRestrictions r) = refl
+dry_delivery : (d : Option DeliveryRestrictions) → dry (delivery_fields d) ≡ true
+dry_delivery None = refl
+dry_delivery (Some r) = refl
 
 dry_components : (cs : List SegmentationComponent) → dry (components_fields cs) ≡ true
 dry_components [] = refl
@@ -93,13 +93,13 @@ dry_mode : (k : SegmentationMode) (cs : List SegmentationComponent) → dry (mod
 dry_mode SegmentationMode.Program cs = refl
 dry_mode (SegmentationMode.Component n) cs = dry_components cs
 
-dry_duration : (d : SegmentationDuration) → dry (duration_fields d) ≡ true
-dry_duration SegmentationDuration.Absent = refl
-dry_duration (SegmentationDuration.Ticks t) = refl
+dry_duration : (d : Option ℕ) → dry (duration_fields d) ≡ true
+dry_duration None = refl
+dry_duration (Some t) = refl
 
-dry_sub : (s : SubSegments) → dry (sub_fields s) ≡ true
-dry_sub SubSegments.Absent = refl
-dry_sub (SubSegments.Is x) = refl
+dry_sub : (s : Option SubSegment) → dry (sub_fields s) ≡ true
+dry_sub None = refl
+dry_sub (Some x) = refl
 
 dry_both : (fs gs : List Field) → dry fs ≡ true → dry gs ≡ true → dry (fs ++ gs) ≡ true
 dry_both fs gs e f = dry_append fs gs ∙ rw e f

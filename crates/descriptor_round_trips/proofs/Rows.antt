@@ -14,14 +14,12 @@ use Rattle.descriptor.specs.Segmentation.{delivery_restrictions, mode, duration,
 use Rattle.descriptor.specs.Full.{blank_beside}
 use Rattle.descriptor.specs.declared.Descriptor.{Descriptor}
 use Rattle.descriptor.specs.declared.Descriptor.TheVariants.{Dtmf, Segmentation}
-use Rattle.descriptor.specs.declared.segmentation.DeliveryRestrictionFlags.{DeliveryRestrictionFlags}
 use Rattle.descriptor.specs.declared.segmentation.DescriptorDetail.TheVariants.{Active}
-use Rattle.descriptor.specs.declared.segmentation.SegmentationDuration.{SegmentationDuration}
 use Rattle.descriptor.specs.declared.segmentation.SegmentationMode.{SegmentationMode}
 use Rattle.descriptor.specs.declared.segmentation.SegmentationUpid.{SegmentationUpid}
-use Rattle.descriptor.specs.declared.segmentation.SubSegments.{SubSegments}
 use Rattle.descriptor_measure.specs.Writing as w
 use Rattle.descriptor_measure.specs.Writing.{descriptor_made, payload_made, enveloped_made, enveloped, alone, all_zero, segmentation_made, writable_segment, writable_upid, written_type, upid_source}
+use Rattle.std.proofs.Common.{None}
 
 abbrev none : List ℕ
 none = replicate 4 0
@@ -51,14 +49,14 @@ start upid = Segmentation (record {
     program_segmentation_flag = true;
     segmentation_duration_flag = false;
     delivery_not_restricted_flag = true;
-    delivery_restrictions = DeliveryRestrictionFlags.None;
+    delivery_restrictions = None;
     segmentation_mode = SegmentationMode.Program;
-    segmentation_duration = SegmentationDuration.Absent;
+    segmentation_duration = None;
     segmentation_upid = upid;
     segmentation_type_id = segmentation_type_of 0x10;
     segment_num = 1;
     segments_expected = 1;
-    sub_segments = SubSegments.Absent;
+    sub_segments = None;
   });
 })
 

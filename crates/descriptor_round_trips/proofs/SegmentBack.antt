@@ -15,8 +15,6 @@ use Rattle.table.specs.declared.View.{View}
 use Rattle.table.proofs.Lists.{zero_one, and_true}
 use Rattle.table.proofs.Structure as laws
 use Rattle.upid.specs.Upid.{check_of, eidr_of, reported_of, upid_of}
-use Rattle.upid.specs.declared.UpidRead.{UpidRead}
-use Rattle.upid.specs.declared.UpidRead.TheVariants.{Fine, Refused}
 use Rattle.upid.proofs.Theorems.{eidr_is_held_by_value}
 use Rattle.descriptor.specs.Descriptor.{is_cuei, descriptor_of, reported_upid, if_fine, segmentation_of}
 use Rattle.descriptor.specs.Segmentation as table
@@ -24,7 +22,6 @@ use Rattle.descriptor.specs.Segmentation.{component_count, agrees, count_of, fro
 use Rattle.descriptor.specs.Views.{without_view}
 use Rattle.descriptor.specs.Full.{filled, beside_in, beside_of}
 use Rattle.descriptor.specs.declared.Descriptor.TheVariants.{Segmentation}
-use Rattle.descriptor.specs.declared.DescriptorRead.TheVariants.{Is}
 use Rattle.descriptor.specs.declared.segmentation.SegmentationComponent.{SegmentationComponent}
 use Rattle.descriptor.specs.declared.segmentation.SegmentationDescriptor.{SegmentationDescriptor}
 use Rattle.descriptor.specs.declared.segmentation.DescriptorDetail.{DescriptorDetail}
@@ -43,6 +40,8 @@ use Rattle.descriptor_round_trips.proofs.PlainTrips.{ReadsBack, zeros}
 use Rattle.descriptor_round_trips.proofs.Remade.{with_upid, upid_found}
 use Rattle.upid.proofs.Reported.{check_none, reports}
 use Rattle.descriptor_round_trips.proofs.SegmentTrips.{segmentation_write_read}
+use Rattle.std.proofs.Common.{Ok, Err, None, Result}
+use Rattle.upid.specs.declared.Refusal.{Refusal}
 
 -- ---- views
 pub viewed_length : (s : List ℕ) (v : View) → v.at + v.len ≤ length s → length (viewed s v) ≡ v.len
@@ -54,7 +53,7 @@ viewed_none s = viewed_at s 0 0 (omega arith)
 -- ---- a UPID that is written: w, of the bytes `source`
 
 pub record Written (u : SegmentationUpid) (eidr lent source : List ℕ) (w : SegmentationUpid) : Type 0 where
-  pub checked : check_of w.upid_type (viewed source w.bytes) ≡ Fine u.upid_type
+  pub checked : check_of w.upid_type (viewed source w.bytes) ≡ Ok u.upid_type
   pub held : eidr_of w.upid_type (viewed source w.bytes) ≡ eidr
   pub kinds : pick (eqb w.bytes.len 0) (eqb w.upid_type 0) true ≡ true
   pub bytes : without_view u.upid_type ≡ false → viewed source w.bytes ≡ viewed lent u.bytes
@@ -69,7 +68,7 @@ module _ (u : SegmentationUpid) (eidr lent : List ℕ) (twelve : length eidr ≡
       let v : viewed eidr (record { at = 0; len = 12 }) ≡ eidr = viewed_at eidr 0 12 (omega arith) ∙ take_all 12 eidr (omega arith) in
       let h = eidr_is_held_by_value eidr twelve in
       record {
-        checked = ap (check_of 10) v ∙ h.0 ∙ ap Fine (sym k);
+        checked = ap (check_of 10) v ∙ h.0 ∙ ap Ok (sym k);
         held = ap (eidr_of 10) v ∙ h.1;
         kinds = refl;
         bytes = λ e. (let z : true ≡ false = rw k at e in zero_one cc);
@@ -97,7 +96,7 @@ module _ (u : SegmentationUpid) (eidr lent : List ℕ) (twelve : length eidr ≡
   of_none n k z =
       let k₂ : written_type u ≡ 0 = type_none k in
       record {
-        checked = check_none (written_type u) (viewed lent u.bytes) (viewed_length lent u.bytes there ∙ n) ∙ ap Fine (sym k);
+        checked = check_none (written_type u) (viewed lent u.bytes) (viewed_length lent u.bytes there ∙ n) ∙ ap Ok (sym k);
         held = rw k₂ (zeros eidr 12 z twelve);
         kinds = ap₂ (λ (a b : ℕ). pick (eqb a 0) (eqb b 0) true) n k₂;
         bytes = λ e. refl;
@@ -107,16 +106,16 @@ module _ (u : SegmentationUpid) (eidr lent : List ℕ) (twelve : length eidr ≡
       }
 
   -- any other
-  of_bytes : 1 ≤ u.bytes.len → (u.upid_type ≡ 0 → ⊥) → (u.upid_type ≡ 10 → ⊥) → (u.upid_type ≡ 5 → ⊥) → all_zero eidr ≡ true → (c : UpidRead) → check_of (written_type u) (viewed lent u.bytes) ≡ c → accepts c ≡ true
+  of_bytes : 1 ≤ u.bytes.len → (u.upid_type ≡ 0 → ⊥) → (u.upid_type ≡ 10 → ⊥) → (u.upid_type ≡ 5 → ⊥) → all_zero eidr ≡ true → (c : Result ℕ Refusal) → check_of (written_type u) (viewed lent u.bytes) ≡ c → accepts c ≡ true
       → Written u eidr lent lent (record { upid_type = written_type u; bytes = u.bytes })
   unfolding written_type eidr_of
-  of_bytes n none ten five z (Refused r) c a = zero_one cc
-  of_bytes n none ten five z (Fine q) c a =
+  of_bytes n none ten five z (Err r) c a = zero_one cc
+  of_bytes n none ten five z (Ok q) c a =
       let t = eqb u.upid_type 6 && eqb u.bytes.len 8 in
       let m : length (viewed lent u.bytes) ≡ u.bytes.len = viewed_length lent u.bytes there in
       let r = reports (written_type u) (viewed lent u.bytes) q c (omega arith) in
       record {
-        checked = c ∙ ap Fine (sym r.0 ∙ type_back t refl five);
+        checked = c ∙ ap Ok (sym r.0 ∙ type_back t refl five);
         held = rw (ne_eqb (written_type u) 10 (type_some t ten)) (zeros eidr 12 z twelve);
         kinds = rw (ne_eqb u.bytes.len 0 (λ (o : u.bytes.len ≡ 0). omega arith));
         bytes = λ e. refl;
@@ -164,7 +163,7 @@ module _ (id : List ℕ) (beside : Beside) (lent : List ℕ) (four : length id �
   -- a payload that reads back as x
   pub record PayloadBack (x : SegmentationDescriptor) : Type 0 where
     pub again : SegmentationDescriptor
-    pub reading : segmentation_of p ≡ Is (Segmentation again)
+    pub reading : segmentation_of p ≡ Ok (Segmentation again)
     pub same : SameReading p (Segmentation again) (replicate 4 0) (beside_of p) lent (Segmentation x) id beside
     pub canon : canonical_segmentation p ≡ true
 
@@ -177,7 +176,7 @@ module _ (id : List ℕ) (beside : Beside) (lent : List ℕ) (four : length id �
         let r = segmentation_write_read x id beside lent p (omega arith) e in
         let f = all_writable x id beside lent (omega arith) p e in
         let z = (and_true (all_zero beside.eidr) _ f.2).0 in
-        let c : check_of 0 (viewed p (record { at = 0; len = 0 })) ≡ Fine 0 = check_none 0 _ (ap length (viewed_none p)) in
+        let c : check_of 0 (viewed p (record { at = 0; len = 0 })) ≡ Ok 0 = check_none 0 _ (ap length (viewed_none p)) in
         record {
           again = x;
           reading = r.2;
@@ -220,7 +219,7 @@ module _ (id : List ℕ) (beside : Beside) (lent : List ℕ) (four : length id �
             ap (contents p) (sym (active_fields_lem event i there cs c)) ∙ s ∙ ap (contents source) (active_fields_lem event i w cs c) in
             viewed_at p there.bytes.at there.bytes.len (omega (arith, n)) ∙ upid_found event i cs p source there w g ∙ sym (viewed_at source w.bytes.at w.bytes.len upid_is_lem.inside)
 
-        checked : check_of w.upid_type (viewed p there.bytes) ≡ Fine u.upid_type
+        checked : check_of w.upid_type (viewed p there.bytes) ≡ Ok u.upid_type
         checked = ap (check_of w.upid_type) upid_bytes ∙ upid_is_lem.checked
 
         active_write_read : PayloadBack x
@@ -232,7 +231,7 @@ module _ (id : List ℕ) (beside : Beside) (lent : List ℕ) (four : length id �
             let k = table.with_upid i (reported_upid u.upid_type there.bytes) in
             record {
               again = record { segmentation_event_id = event; descriptor_detail = Active k };
-              reading = r.2 ∙ ap (λ (c : UpidRead). if_fine c there.bytes λ v. Is (Segmentation (record { segmentation_event_id = event; descriptor_detail = Active (table.with_upid i v) }))) checked;
+              reading = r.2 ∙ ap (λ (c : Result ℕ Refusal). if_fine c there.bytes λ v. Ok (Segmentation (record { segmentation_event_id = event; descriptor_detail = Active (table.with_upid i v) }))) checked;
               same = record {
                 values =
                     ap (λ (n : ℕ). Segmentation (record { segmentation_event_id = event; descriptor_detail = Active (table.with_upid i (record { upid_type = u.upid_type; bytes = record { at = 0; len = n } })) })) (upid_is_lem.size there.bytes.at);

@@ -19,15 +19,12 @@ use Rattle.table.proofs.Lists.{zero_one, and_true}
 use Rattle.table.proofs.Steps.{onward, parse_inside}
 use Rattle.table.proofs.Structure as laws
 use Rattle.upid.specs.Upid.{check_of, eidr_of, length_of, reported_of}
-use Rattle.upid.specs.declared.UpidRead.{UpidRead}
-use Rattle.upid.specs.declared.UpidRead.TheVariants.{Fine, Refused}
 use Rattle.upid.proofs.Walks.{check_short}
 use Rattle.descriptor.specs.Descriptor.{reported_upid, if_fine, segmentation_of}
 use Rattle.descriptor.specs.Segmentation as table
 use Rattle.descriptor.specs.Segmentation.{component, blank_component, count_of, Moded, mode, duration, delivery_restrictions, ListedFront, parts, front, Head, head, back, front_of, back_of, writable_detail, writable_front, active_from, segmentation}
 use Rattle.descriptor.specs.Full.{filled, beside_in, beside_of}
 use Rattle.descriptor.specs.declared.Descriptor.TheVariants.{Segmentation}
-use Rattle.descriptor.specs.declared.DescriptorRead.TheVariants.{Is}
 use Rattle.descriptor.specs.declared.segmentation.SegmentationComponent.{SegmentationComponent}
 use Rattle.descriptor.specs.declared.segmentation.SegmentationDescriptor.{SegmentationDescriptor}
 use Rattle.descriptor.specs.declared.segmentation.DescriptorDetail.{DescriptorDetail}
@@ -46,6 +43,8 @@ use Rattle.upid.proofs.Reported.{check_none, reports, eidr_is_written}
 use Rattle.descriptor_round_trips.proofs.SegmentBack.{viewed_length, viewed_none, counted_again}
 use Rattle.descriptor_round_trips.proofs.SegmentRead.{after, segmentation_read}
 use Rattle.descriptor_round_trips.proofs.SegmentTrips.{segmentation_read_write}
+use Rattle.std.proofs.Common.{Ok, Err, Result}
+use Rattle.upid.specs.declared.Refusal.{Refusal}
 
 -- ---- as many components as the count says
 
@@ -178,7 +177,7 @@ module _ (p : List ℕ) (u : SegmentationUpid) (there : u.bytes.at + u.bytes.len
   none_again : u.bytes.len ≡ 0 → u.upid_type ≡ 0 → Rewritten p u (reported_upid 0 u.bytes) held
   unfolding writable_upid upid_source written_upid written_type eidr_of all_zero
   none_again n k =
-      let c : check_of 0 (viewed p (record { at = 0; len = 0 })) ≡ Fine 0 = check_none 0 _ (ap length (viewed_none p)) in
+      let c : check_of 0 (viewed p (record { at = 0; len = 0 })) ≡ Ok 0 = check_none 0 _ (ap length (viewed_none p)) in
       let e : eidr_of u.upid_type (viewed p u.bytes) ≡ replicate 12 0 = rw k in
       record {
         there = omega arith;
@@ -206,7 +205,7 @@ module _ (p : List ℕ) (u : SegmentationUpid) (there : u.bytes.at + u.bytes.len
             ∙ ap (λ (x : List ℕ). number 8 10 ∷ (number 8 12 ∷ (bytes x ∷ []))) b;
       }
 
-  bytes_again : (q : ℕ) → check_of u.upid_type (viewed p u.bytes) ≡ Fine q → 1 ≤ u.bytes.len → (q ≡ 10 → ⊥) → Rewritten p u (reported_upid q u.bytes) held
+  bytes_again : (q : ℕ) → check_of u.upid_type (viewed p u.bytes) ≡ Ok q → 1 ≤ u.bytes.len → (q ≡ 10 → ⊥) → Rewritten p u (reported_upid q u.bytes) held
   unfolding writable_upid upid_source written_upid written_type eidr_of all_zero
   bytes_again q c n ten =
       let m : length (viewed p u.bytes) ≡ u.bytes.len = viewed_length p u.bytes there in
@@ -225,19 +224,19 @@ module _ (p : List ℕ) (u : SegmentationUpid) (there : u.bytes.at + u.bytes.len
         holds = rw (zero, other, k);
       }
 
-  pub upid_again : (q : ℕ) → check_of u.upid_type (viewed p u.bytes) ≡ Fine q → canonical_upid p u ≡ true → Rewritten p u (reported_upid q u.bytes) held
+  pub upid_again : (q : ℕ) → check_of u.upid_type (viewed p u.bytes) ≡ Ok q → canonical_upid p u ≡ true → Rewritten p u (reported_upid q u.bytes) held
   unfolding canonical_upid
   upid_again q c e = go (eqb u.bytes.len 0) (eqb q 10) refl refl (and_true (accepts (check_of u.upid_type (viewed p u.bytes))) _ e).1
     where
       go : (n t : Bool) → eqb u.bytes.len 0 ≡ n → eqb q 10 ≡ t → pick n (eqb u.upid_type 0) true ≡ true → Rewritten p u (reported_upid q u.bytes) held
       go true t en et f =
           let n : u.bytes.len ≡ 0 = eqb-true u.bytes.len 0 en in
-          let z : Fine 0 ≡ Fine q = sym (check_none u.upid_type (viewed p u.bytes) (viewed_length p u.bytes there ∙ n)) ∙ c in
+          let z : Ok 0 ≡ Ok q = sym (check_none u.upid_type (viewed p u.bytes) (viewed_length p u.bytes there ∙ n)) ∙ c in
           let o : 0 ≡ q = cc in
           subst (λ (k : ℕ). Rewritten p u (reported_upid k u.bytes) held) o (none_again n (eqb-true u.upid_type 0 f))
       go false true en et f =
           let o : q ≡ 10 = eqb-true q 10 et in
-          let w = eidr_is_written u.upid_type (viewed p u.bytes) (c ∙ ap Fine o) in
+          let w = eidr_is_written u.upid_type (viewed p u.bytes) (c ∙ ap Ok o) in
           subst (λ (k : ℕ). Rewritten p u (reported_upid k u.bytes) held) (sym o) (eidr_again w.0 (sym (viewed_length p u.bytes there) ∙ w.1))
       go false false en et f = let n = eqb-false u.bytes.len 0 en in bytes_again q c (omega (arith, n)) (eqb-false q 10 et)
 
@@ -251,7 +250,7 @@ module _ (p : List ℕ) (a : AllBytes p) where
   -- canonical bytes are what is written of their reading
   abbrev Back : SegmentationDescriptor → Type 0
   Back d =
-      (segmentation_of p ≡ Is (Segmentation d))
+      (segmentation_of p ≡ Ok (Segmentation d))
       × (segmentation_made d (replicate 4 0) (beside_of p) p ≡ made p)
       × (count_of (front_of d.descriptor_detail).segmentation_mode ≤ length (beside_of p).components)
 
@@ -262,7 +261,7 @@ module _ (p : List ℕ) (a : AllBytes p) where
       unfolding segmentation_made writable_segment writable_detail writable_upid upid_source written_upid written_type eidr_of all_zero beside_of beside_in
       cancel_again e f =
           let x : table.Segmentation = record { descriptor = record { segmentation_event_id = event; descriptor_detail = Cancel }; components = cs } in
-          let c : check_of 0 (viewed p (record { at = 0; len = 0 })) ≡ Fine 0 = check_none 0 _ (ap length (viewed_none p)) in
+          let c : check_of 0 (viewed p (record { at = 0; len = 0 })) ≡ Ok 0 = check_none 0 _ (ap length (viewed_none p)) in
           let n : length cs ≡ 0 = segmentation_counted p x m e in
           let z : cs ≡ [] = nothing cs n in
           (segmentation_read p x m e, rw (e, le-leb 0 (length p) (omega arith), c) (rw z at f), omega arith)
@@ -317,12 +316,12 @@ module _ (p : List ℕ) (a : AllBytes p) where
               (counted_again (count_of i.segmentation_mode) cs counts)
               ∙ ap (make_of writable source) (active_fields_lem event i (written_upid v) cs counts) ∙ g)
 
-          active_again : (c : UpidRead) → check_of u.upid_type (viewed p u.bytes) ≡ c → accepts c ≡ true → (d : SegmentationDescriptor) × Back d
-          active_again (Refused r) c t = zero_one cc
-          active_again (Fine q) c t = (
+          active_again : (c : Result ℕ Refusal) → check_of u.upid_type (viewed p u.bytes) ≡ c → accepts c ≡ true → (d : SegmentationDescriptor) × Back d
+          active_again (Err r) c t = zero_one cc
+          active_again (Ok q) c t = (
             with (reported_upid q u.bytes),
             (
-              segmentation_read p x m e ∙ ap (λ (c : UpidRead). if_fine c u.bytes λ (w : SegmentationUpid). Is (Segmentation (with w))) c,
+              segmentation_read p x m e ∙ ap (λ (c : Result ℕ Refusal). if_fine c u.bytes λ (w : SegmentationUpid). Ok (Segmentation (with w))) c,
               ap (λ (b : Beside). segmentation_made (with (reported_upid q u.bytes)) (replicate 4 0) b p) beside_is
                   ∙ remade (reported_upid q u.bytes) (eidr_of u.upid_type (viewed p u.bytes)) (upid_again p u there q c canon),
               subst (λ (b : Beside). count_of i.segmentation_mode ≤ length b.components) (sym beside_is) (omega (arith, filled_places cs, counts)),
@@ -337,7 +336,7 @@ module _ (p : List ℕ) (a : AllBytes p) where
   by_detail event (Active i) cs m e f c =
       active_again event cs m i e f c (check_of i.segmentation_upid.upid_type (viewed p i.segmentation_upid.bytes)) refl (and_true (accepts (check_of i.segmentation_upid.upid_type (viewed p i.segmentation_upid.bytes))) _ c).0
 
-  pub segmentation_payload_read_write : canonical_segmentation p ≡ true → (d : SegmentationDescriptor) × (segmentation_of p ≡ Is (Segmentation d)) × (segmentation_made d (replicate 4 0) (beside_of p) p ≡ made p)
+  pub segmentation_payload_read_write : canonical_segmentation p ≡ true → (d : SegmentationDescriptor) × (segmentation_of p ≡ Ok (Segmentation d)) × (segmentation_made d (replicate 4 0) (beside_of p) p ≡ made p)
       × (count_of (front_of d.descriptor_detail).segmentation_mode ≤ length (beside_of p).components)
   unfolding canonical_segmentation
   segmentation_payload_read_write e =

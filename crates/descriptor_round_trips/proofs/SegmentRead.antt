@@ -11,23 +11,24 @@ use Rattle.descriptor.specs.Descriptor.{if_fine, active_with, active_of, segment
 use Rattle.descriptor.specs.Segmentation as table
 use Rattle.descriptor.specs.Segmentation.{ListedFront, Head, head, head_of, front, front_of, back, back_of, active_from, segmentation}
 use Rattle.descriptor.specs.declared.Descriptor.TheVariants.{Segmentation}
-use Rattle.descriptor.specs.declared.DescriptorRead.{DescriptorRead}
-use Rattle.descriptor.specs.declared.DescriptorRead.TheVariants.{Is}
 use Rattle.descriptor.specs.declared.segmentation.DescriptorDetail.{DescriptorDetail}
 use Rattle.descriptor.specs.declared.segmentation.DescriptorDetail.TheVariants.{Cancel, Active}
 use Rattle.descriptor.specs.declared.segmentation.SegmentationUpid.{SegmentationUpid}
 use Rattle.table.proofs.Steps.{reads_in}
+use Rattle.std.proofs.Common.{Ok, Result}
+use Rattle.descriptor.specs.declared.Descriptor.{Descriptor}
+use Rattle.upid.specs.declared.Refusal.{Refusal}
 
 -- a detail as the table reads it, whose UPID is as written: with the UPID as its rules report it
 abbrev pub reported_detail : DescriptorDetail → SegmentationUpid → DescriptorDetail
 reported_detail Cancel u = Cancel
 reported_detail (Active i) u = Active (active_from (front_of (Active i)) u (back_of (Active i)))
 
-abbrev pub detail_read : List ℕ → ℕ → DescriptorDetail → DescriptorRead
-detail_read s event Cancel = Is (Segmentation (record { segmentation_event_id = event; descriptor_detail = Cancel }))
+abbrev pub detail_read : List ℕ → ℕ → DescriptorDetail → Result Descriptor Refusal
+detail_read s event Cancel = Ok (Segmentation (record { segmentation_event_id = event; descriptor_detail = Cancel }))
 detail_read s event (Active i) =
     if_fine (check_of i.segmentation_upid.upid_type (viewed s i.segmentation_upid.bytes)) i.segmentation_upid.bytes λ u.
-    Is (Segmentation (record { segmentation_event_id = event; descriptor_detail = reported_detail (Active i) u }))
+    Ok (Segmentation (record { segmentation_event_id = event; descriptor_detail = reported_detail (Active i) u }))
 
 -- the table behind the head
 abbrev pub after : Head → Table table.Segmentation

@@ -1,6 +1,6 @@
 -- What is made of a descriptor that is handed in, by what is read and by the widths of its fields. `descriptor_made` is this and nothing else is (proofs/Theorems.antt):
 -- so 01's list of refusal 33 is what its row says, "a value that no canonical reading has", and need not be believed.
-use Rattle.std.specs.Prelude.{ℕ, ◌+◌, ◌^◌, ◌<◌, ◌≤◌, Bool, true, false, ◌&&◌, List, [], ◌∷◌, ◌≡◌, ltb, length, take}
+use Rattle.std.specs.Prelude.{ℕ, ◌+◌, ◌^◌, ◌<◌, ◌≤◌, Bool, true, false, ◌&&◌, List, [], ◌∷◌, ◌≡◌, ltb, length, take, Ok}
 use Rattle.names.specs.Segmentation.{segmentation_number}
 use Rattle.table.specs.Bits.{AllBytes}
 use Rattle.table.specs.Lent.{no_view, lies_in}
@@ -11,7 +11,6 @@ use Rattle.descriptor.specs.Views.{by_descriptor}
 use Rattle.descriptor.specs.Full.{full_of}
 use Rattle.descriptor.specs.declared.Descriptor.{Descriptor}
 use Rattle.descriptor.specs.declared.Descriptor.TheVariants.{Avail, Dtmf, Segmentation, Time, Reserved}
-use Rattle.descriptor.specs.declared.DescriptorRead.TheVariants.{Is}
 use Rattle.descriptor.specs.declared.segmentation.SegmentationComponent.{SegmentationComponent}
 use Rattle.descriptor.specs.declared.segmentation.DescriptorDetail.{DescriptorDetail}
 use Rattle.descriptor.specs.declared.segmentation.DescriptorDetail.TheVariants.{Cancel, Active}
@@ -62,7 +61,7 @@ pub record Payload (d : Descriptor) (identifier : List ℕ) (beside : Beside) (l
   pub are : AllBytes p
   pub form : canonical_payload tag id p ≡ true
   pub again : Descriptor
-  pub reading : (full_of tag id p).read ≡ Is again
+  pub reading : (full_of tag id p).read ≡ Ok again
   pub same : SameReading p again (full_of tag id p).identifier (full_of tag id p).beside lent d identifier beside
 
 -- "31 to 36 are checked in order of number". (Where there is a payload, each number was read of its field, so that 32 does not apply.)

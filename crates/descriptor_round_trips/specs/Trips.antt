@@ -1,9 +1,8 @@
 -- What the round trips of descriptors say.
-use Rattle.std.specs.Prelude.{ℕ, ◌≤◌, List, ◌≡◌, length, take, drop, get_or}
+use Rattle.std.specs.Prelude.{ℕ, ◌≤◌, List, ◌≡◌, length, take, drop, get_or, Ok}
 use Rattle.table.specs.Bits.{AllBytes}
 use Rattle.descriptor.specs.Full.{full_of}
 use Rattle.descriptor.specs.declared.Descriptor.{Descriptor}
-use Rattle.descriptor.specs.declared.DescriptorRead.TheVariants.{Is}
 use Rattle.descriptor.specs.declared.full.Beside.{Beside}
 use Rattle.descriptor.specs.declared.full.FullDescriptor.{FullDescriptor}
 use Rattle.canonical_form.specs.Same.{SameReading}
@@ -25,5 +24,5 @@ pub record Handed (d : Descriptor) (identifier : List ℕ) (beside : Beside) (le
 -- the bytes s are read as a descriptor that is equal to what was handed in
 pub record ReadAs (s : List ℕ) (d : Descriptor) (identifier : List ℕ) (beside : Beside) (lent : List ℕ) : Type 0 where
   pub again : Descriptor
-  pub reading : (full_in s).read ≡ Is again
+  pub reading : (full_in s).read ≡ Ok again
   pub same : SameReading (drop 6 s) again (full_in s).identifier (full_in s).beside lent d identifier beside

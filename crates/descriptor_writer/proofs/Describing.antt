@@ -15,10 +15,10 @@ use Rattle.descriptor.specs.declared.plain.TimeDescriptor.{TimeDescriptor}
 use Rattle.descriptor.specs.declared.segmentation.SegmentationDescriptor.{SegmentationDescriptor}
 use Rattle.descriptor.specs.declared.full.Beside.{Beside}
 use Rattle.descriptor_measure.specs.Writing.{cuei, enveloped_made, alone, writable_reserved, segmentation_made, payload_made, descriptor_made}
-use Rattle.bit_stores.specs.declared.Written.{Written}
 use Rattle.descriptor_writer.specs.Stores.{Writes}
+use Rattle.std.proofs.Common.{Result}
 
-module _ (d : Descriptor) (id : List ℕ) (beside : Beside) (lent t v : List ℕ) (r : Written) where
+module _ (d : Descriptor) (id : List ℕ) (beside : Beside) (lent t v : List ℕ) (r : Result ℕ ℕ) where
   pub as_avail : (x : AvailDescriptor) → d ≡ Avail x → Writes (enveloped_made 0 cuei (make avail (alone id beside.eidr) [] x)) t v r → Writes (descriptor_made d id beside lent) t v r
   unfolding descriptor_made payload_made avail number
   as_avail x e w = rw e w
@@ -42,7 +42,7 @@ module _ (d : Descriptor) (id : List ℕ) (beside : Beside) (lent t v : List ℕ
   as_reserved tag b e w = rw e w
 
 -- what has no components is written alike beside any
-module _ (d : Descriptor) (id : List ℕ) (beside : Beside) (lent t v : List ℕ) (r : Written) where
+module _ (d : Descriptor) (id : List ℕ) (beside : Beside) (lent t v : List ℕ) (r : Result ℕ ℕ) where
   abbrev WithoutComponents : Type 0
   WithoutComponents = Writes (descriptor_made d id (record { components = filled []; eidr = beside.eidr }) lent) t v r
 

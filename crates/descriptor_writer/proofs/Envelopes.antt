@@ -16,22 +16,22 @@ use Rattle.table.proofs.Walks.{print_bits}
 use Rattle.descriptor_measure.specs.Writing.{enveloped, enveloped_made}
 use Rattle.bit_stores.specs.Pen.{penned}
 use Rattle.bit_stores.specs.Written.{answer_of, later_of}
-use Rattle.bit_stores.specs.declared.Written.{Written}
 use Rattle.bit_stores.proofs.Penned.{penned_aligned}
 use Rattle.descriptor_writer.specs.Stores.{Writes}
 use Rattle.descriptor_writer.specs.Private.{Stores, start, envelope_contents}
+use Rattle.std.proofs.Common.{Ok, Err}
 
 pub place_start : place start ≡ 0
 unfolding place
 place_start = refl
 
 -- ---- a refusal leaves the target
-pub writes_refused : (m : Made) (t : List ℕ) (n : ℕ) → m ≡ refused n → Writes m t t (Written.Refused n)
+pub writes_refused : (m : Made) (t : List ℕ) (n : ℕ) → m ≡ refused n → Writes m t t (Err n)
 unfolding answer_of later_of
 writes_refused m t n e = rw e (record { answer = refl; target_later = refl })
 
 module _ (tag : ℕ) (id payload t : List ℕ) (k : ℕ) (size : length payload ≡ k) where
-  pub writes_long : 250 < k → Writes (enveloped_made tag id (made payload)) t t (Written.Refused 34)
+  pub writes_long : 250 < k → Writes (enveloped_made tag id (made payload)) t t (Err 34)
   unfolding enveloped_made
   writes_long h = writes_refused (enveloped_made tag id (made payload)) t 34 (rw (lt-leb (length payload + 4) 254 (omega arith)))
 
@@ -43,13 +43,13 @@ module _ (tag : ℕ) (id payload t : List ℕ) (k : ℕ) (size : length payload 
   unfolding enveloped
   enveloped_length f = let z = length-append id payload in omega arith
 
-  pub writes_short : k ≤ 250 → length id ≡ 4 → length t < k + 6 → Writes (enveloped_made tag id (made payload)) t t (Written.Refused 36)
+  pub writes_short : k ≤ 250 → length id ≡ 4 → length t < k + 6 → Writes (enveloped_made tag id (made payload)) t t (Err 36)
   unfolding answer_of later_of
   writes_short h f l =
       let z : leb (length (enveloped tag id payload)) (length t) ≡ false = lt-leb (length (enveloped tag id payload)) (length t) (omega (arith, enveloped_length f)) in
       record { answer = rw (enveloped_so h, z); target_later = rw (enveloped_so h, z) }
 
-  wrote_so : (v : List ℕ) → k ≤ 250 → length id ≡ 4 → k + 6 ≤ length t → v ≡ enveloped tag id payload ++ drop (k + 6) t → Writes (enveloped_made tag id (made payload)) t v (Written.Wrote (k + 6))
+  wrote_so : (v : List ℕ) → k ≤ 250 → length id ≡ 4 → k + 6 ≤ length t → v ≡ enveloped tag id payload ++ drop (k + 6) t → Writes (enveloped_made tag id (made payload)) t v (Ok (k + 6))
   unfolding answer_of later_of
   wrote_so v h f l e =
       let n : length (enveloped tag id payload) ≡ k + 6 = enveloped_length f in
@@ -74,7 +74,7 @@ module _ (tag : ℕ) (id t : List ℕ) (k : ℕ) (cs : List Content) (bits : len
       ∙ ap (λ (n : ℕ). tag ∷ ((n + 4) ∷ (id ++ bytes_of (print cs)))) (sym payload_size_lem)
 
   pub writes_stored : (v : List ℕ) (d : Cursor) → k ≤ 250 → Stores t start (envelope_contents tag (k + 4) id ++ cs) v d
-      → Writes (enveloped_made tag id (made (bytes_of (print cs)))) t v (Written.Wrote (k + 6))
+      → Writes (enveloped_made tag id (made (bytes_of (print cs)))) t v (Ok (k + 6))
   writes_stored v d h s =
       let n : length (bits_of F ++ print cs) ≡ (k + 6) * 8 = length-append (bits_of F) (print cs) ∙ omega (arith, length_bits F) in
       let l : length (print (envelope_contents tag (k + 4) id ++ cs)) ≡ (k + 6) * 8 = ap length envelope_bits ∙ n in

@@ -9,11 +9,11 @@ use Rattle.table.specs.Bits.{bits_of_num}
 use Rattle.table.specs.Writing.{number, contents, print}
 use Rattle.names.specs.Flags.{restrictions_bits}
 use Rattle.names.specs.declared.flags.DeviceRestrictions.{DeviceRestrictions}
-use Rattle.descriptor.specs.declared.segmentation.DeliveryRestrictionFlags.{DeliveryRestrictionFlags}
 use Rattle.descriptor.specs.declared.segmentation.DeliveryRestrictions.{DeliveryRestrictions}
 use Rattle.descriptor.specs.declared.segmentation.SegmentationComponent.{SegmentationComponent}
 use Rattle.descriptor_measure.specs.Private.{head_fields, flag_fields, delivery_fields, components_fields}
 use Rattle.bit_stores.proofs.Tables.{print_beside}
+use Rattle.std.proofs.Common.{Some, None, Option}
 
 -- ---- the head
 pub head_bits : (from : List ℕ) (event : ℕ) (cancel : Bool) (f y : ℕ) → (f ≡ flag_number cancel) × (f ≤ 1) → y ≡ event * 256 + f * 128 + 127
@@ -36,10 +36,10 @@ device_small DeviceRestrictions.RestrictGroup1 = omega arith
 device_small DeviceRestrictions.RestrictGroup2 = omega arith
 device_small DeviceRestrictions.None = omega arith
 
-pub delivery_none : (from : List ℕ) (d : DeliveryRestrictionFlags) → d ≡ DeliveryRestrictionFlags.None → print (contents from (delivery_fields d)) ≡ print (number 5 31 ∷ [])
+pub delivery_none : (from : List ℕ) (d : Option DeliveryRestrictions) → d ≡ None → print (contents from (delivery_fields d)) ≡ print (number 5 31 ∷ [])
 delivery_none from d e = rw e
 
-pub delivery_bits : (from : List ℕ) (d : DeliveryRestrictionFlags) (r : DeliveryRestrictions) (w b a v y : ℕ) → d ≡ DeliveryRestrictionFlags.DeliveryRestrictions r
+pub delivery_bits : (from : List ℕ) (d : Option DeliveryRestrictions) (r : DeliveryRestrictions) (w b a v y : ℕ) → d ≡ Some r
     → (w ≡ flag_number r.web_delivery_allowed_flag) × (w ≤ 1) → (b ≡ flag_number r.no_regional_blackout_flag) × (b ≤ 1)
     → (a ≡ flag_number r.archive_allowed_flag) × (a ≤ 1) → v ≡ restrictions_bits r.device_restrictions → y ≡ w * 16 + b * 8 + a * 4 + v
     → print (contents from (delivery_fields d)) ≡ print (number 5 y ∷ [])
@@ -51,7 +51,7 @@ delivery_bits from d r w b a v y is hw hb ha hv e =
     let z : ((x₁ * 2 + x₂ % 2) * 2 + x₃ % 2) * 4 + x₄ % 4 ≡ y = omega (arith, hw.0, hb.0, hb.1, ha.0, ha.1, hv, device_small r.device_restrictions, e) in
     rw is (three_bits 2 x₁ x₂ x₃ x₄ ∙ ap (λ (n : ℕ). print (number 5 n ∷ [])) z)
 
-pub flags_bits : (from : List ℕ) (program lasts free : Bool) (d : DeliveryRestrictionFlags) (p l f r y : ℕ) → (p ≡ flag_number program) × (p ≤ 1) → (l ≡ flag_number lasts) × (l ≤ 1)
+pub flags_bits : (from : List ℕ) (program lasts free : Bool) (d : Option DeliveryRestrictions) (p l f r y : ℕ) → (p ≡ flag_number program) × (p ≤ 1) → (l ≡ flag_number lasts) × (l ≤ 1)
     → (f ≡ flag_number free) × (f ≤ 1) → r < 32 → print (contents from (delivery_fields d)) ≡ print (number 5 r ∷ []) → y ≡ p * 128 + l * 64 + f * 32 + r
     → print (contents from (flag_fields program lasts free ++ delivery_fields d)) ≡ print (number 8 y ∷ [])
 flags_bits from program lasts free d p l f r y hp hl hf hr rest e =

@@ -22,18 +22,18 @@ use Rattle.descriptor.specs.declared.plain.DTMFDescriptor.{DTMFDescriptor}
 use Rattle.descriptor.specs.declared.plain.TimeDescriptor.{TimeDescriptor}
 use Rattle.descriptor_measure.specs.Writing.{cuei, enveloped_made, alone, writable_reserved}
 use Rattle.bit_stores.specs.Pen.{Pens}
-use Rattle.bit_stores.specs.declared.Written.{Written}
 use Rattle.descriptor_writer.specs.Stores.{Writes}
 use Rattle.descriptor_writer.specs.Private.{Stores, start, envelope_contents}
 use Rattle.descriptor_writer.proofs.Storing.{then, number_then, put_same, put_bytes, count_then}
 use Rattle.descriptor_writer.proofs.Envelopes.{writes_refused, writes_long, writes_short, writes_stored}
+use Rattle.std.proofs.Common.{Ok, Err}
 
 -- what an envelope's store says
 abbrev pub Enveloped : List ℕ → ℕ → ℕ → List ℕ → List ℕ → Cursor → Type 0
 Enveloped t tag len id u e = Stores t start (envelope_contents tag len id) u e × AllBytes (tag ∷ (len ∷ id)) × AllBytes t
 
 -- a refusal of what a payload is made of
-pub refuses : (tag : ℕ) (id t : List ℕ) (m : Made) (n : ℕ) → m ≡ refused n → Writes (enveloped_made tag id m) t t (Written.Refused n)
+pub refuses : (tag : ℕ) (id t : List ℕ) (m : Made) (n : ℕ) → m ≡ refused n → Writes (enveloped_made tag id m) t t (Err n)
 unfolding enveloped_made
 refuses tag id t m n e = writes_refused (enveloped_made tag id m) t n (rw e)
 
@@ -53,18 +53,18 @@ module _ (x : AvailDescriptor) (id eidr t : List ℕ) (a : Bool) (ea : a ≡ alo
   avail_bits : length (print avail_contents) ≡ 4 * 8
   avail_bits = length-append (bits_of_num 32 x.provider_avail_id) [] ∙ omega (arith, length_num 32 x.provider_avail_id)
 
-  pub avail_33 : not a ≡ true → Writes (enveloped_made 0 cuei (make avail (alone id eidr) [] x)) t t (Written.Refused 33)
+  pub avail_33 : not a ≡ true → Writes (enveloped_made 0 cuei (make avail (alone id eidr) [] x)) t t (Err 33)
   avail_33 h = refuses 0 cuei t (make avail (alone id eidr) [] x) 33 (avail_makes ∙ rw (not-true a h))
 
   module _ (h : not a ≡ false) where
     avail_made : make avail (alone id eidr) [] x ≡ made (bytes_of (print avail_contents))
     avail_made = avail_makes ∙ rw (not-false a h)
 
-    pub avail_36 : length t < 10 → Writes (enveloped_made 0 cuei (make avail (alone id eidr) [] x)) t t (Written.Refused 36)
+    pub avail_36 : length t < 10 → Writes (enveloped_made 0 cuei (make avail (alone id eidr) [] x)) t t (Err 36)
     avail_36 l = rw avail_made (writes_short 0 cuei (bytes_of (print avail_contents)) t 4 (size_bytes (print avail_contents) 4 avail_bits) (omega arith) refl l)
 
     pub avail_writes : (i u v : List ℕ) (e d : Cursor) (n : ℕ) → 10 ≤ length t → i ≡ cuei → Enveloped t 0 8 i u e → n ≡ x.provider_avail_id → Pens u e (bits_of_num 32 n) v d
-        → Writes (enveloped_made 0 cuei (make avail (alone id eidr) [] x)) t v (Written.Wrote 10)
+        → Writes (enveloped_made 0 cuei (make avail (alone id eidr) [] x)) t v (Ok 10)
     avail_writes i u v e d n l ei f en p =
         let g : Enveloped t 0 8 cuei u e = subst (λ (j : List ℕ). Enveloped t 0 8 j u e) ei f in
         rw avail_made
@@ -83,7 +83,7 @@ module _ (x : TimeDescriptor) (id eidr t : List ℕ) (nano : x.tai_nanoseconds <
       let c = bits_of_num 16 x.utc_offset in
       length-append a (b ++ (c ++ [])) ∙ omega (arith, length-append b (c ++ []), length-append c [], length_num 48 x.tai_seconds, length_num 32 x.tai_nanoseconds, length_num 16 x.utc_offset)
 
-  pub time_32 : 0xffffffffffff < x.tai_seconds → Writes (enveloped_made 3 cuei (make time (alone id eidr) [] x)) t t (Written.Refused 32)
+  pub time_32 : 0xffffffffffff < x.tai_seconds → Writes (enveloped_made 3 cuei (make time (alone id eidr) [] x)) t t (Err 32)
   unfolding time number
   time_32 h = refuses 3 cuei t (make time (alone id eidr) [] x) 32 (rw (le-ltb x.tai_seconds (2 ^ 48) (omega arith)))
 
@@ -92,19 +92,19 @@ module _ (x : TimeDescriptor) (id eidr t : List ℕ) (nano : x.tai_nanoseconds <
     unfolding time number
     time_makes = rw (← ea, lt-ltb x.tai_seconds (2 ^ 48) (omega arith), lt-ltb x.tai_nanoseconds (2 ^ 32) nano, lt-ltb x.utc_offset (2 ^ 16) offset)
 
-    pub time_33 : not a ≡ true → Writes (enveloped_made 3 cuei (make time (alone id eidr) [] x)) t t (Written.Refused 33)
+    pub time_33 : not a ≡ true → Writes (enveloped_made 3 cuei (make time (alone id eidr) [] x)) t t (Err 33)
     time_33 h = refuses 3 cuei t (make time (alone id eidr) [] x) 33 (time_makes ∙ rw (not-true a h))
 
     module _ (h : not a ≡ false) where
       time_made : make time (alone id eidr) [] x ≡ made (bytes_of (print time_contents))
       time_made = time_makes ∙ rw (not-false a h)
 
-      pub time_36 : length t < 18 → Writes (enveloped_made 3 cuei (make time (alone id eidr) [] x)) t t (Written.Refused 36)
+      pub time_36 : length t < 18 → Writes (enveloped_made 3 cuei (make time (alone id eidr) [] x)) t t (Err 36)
       time_36 l = rw time_made (writes_short 3 cuei (bytes_of (print time_contents)) t 12 (size_bytes (print time_contents) 12 time_bits) (omega arith) refl l)
 
       pub time_writes : (i u v₁ v₂ v₃ : List ℕ) (e d₁ d₂ d₃ : Cursor) → 18 ≤ length t → i ≡ cuei → Enveloped t 3 16 i u e → Pens u e (bits_of_num 48 x.tai_seconds) v₁ d₁
           → Pens v₁ d₁ (bits_of_num 32 x.tai_nanoseconds) v₂ d₂ → Pens v₂ d₂ (bits_of_num 16 x.utc_offset) v₃ d₃
-          → Writes (enveloped_made 3 cuei (make time (alone id eidr) [] x)) t v₃ (Written.Wrote 18)
+          → Writes (enveloped_made 3 cuei (make time (alone id eidr) [] x)) t v₃ (Ok 18)
       time_writes i u v₁ v₂ v₃ e d₁ d₂ d₃ l ei f p q r =
           let g : Enveloped t 3 16 cuei u e = subst (λ (j : List ℕ). Enveloped t 3 16 j u e) ei f in
           rw time_made
@@ -132,12 +132,12 @@ module _ (x : DTMFDescriptor) (id eidr lent t : List ℕ) (b : Bool) (eb : b ≡
   abbrev D : Made
   D = make dtmf (alone id eidr) lent x
 
-  pub dtmf_31 : not b ≡ true → Writes (enveloped_made 1 cuei D) t t (Written.Refused 31)
+  pub dtmf_31 : not b ≡ true → Writes (enveloped_made 1 cuei D) t t (Err 31)
   unfolding dtmf number reserved part
   dtmf_31 h = refuses 1 cuei t D 31 (rw (← eb, not-true b h))
 
   module _ (h : not b ≡ false) where
-    pub dtmf_32 : 7 < chars.len → Writes (enveloped_made 1 cuei D) t t (Written.Refused 32)
+    pub dtmf_32 : 7 < chars.len → Writes (enveloped_made 1 cuei D) t t (Err 32)
     unfolding dtmf number reserved part
     dtmf_32 l = refuses 1 cuei t D 32 (rw (← eb, not-false b h, lt-ltb x.preroll (2 ^ 8) preroll, le-ltb chars.len (2 ^ 3) (omega arith)))
 
@@ -165,19 +165,19 @@ module _ (x : DTMFDescriptor) (id eidr lent t : List ℕ) (b : Bool) (eb : b ≡
             run_length lent chars (sym eb ∙ not-false b h),
           )
 
-      pub dtmf_33 : not a ≡ true → Writes (enveloped_made 1 cuei D) t t (Written.Refused 33)
+      pub dtmf_33 : not a ≡ true → Writes (enveloped_made 1 cuei D) t t (Err 33)
       dtmf_33 l = refuses 1 cuei t D 33 (dtmf_makes ∙ rw (not-true a l))
 
       module _ (l : not a ≡ false) where
         dtmf_made : D ≡ made (bytes_of (print dtmf_contents))
         dtmf_made = dtmf_makes ∙ rw (not-false a l)
 
-        pub dtmf_36 : length t < 8 + chars.len → Writes (enveloped_made 1 cuei D) t t (Written.Refused 36)
+        pub dtmf_36 : length t < 8 + chars.len → Writes (enveloped_made 1 cuei D) t t (Err 36)
         dtmf_36 k = rw dtmf_made (writes_short 1 cuei (bytes_of (print dtmf_contents)) t (2 + chars.len) (size_bytes (print dtmf_contents) (2 + chars.len) dtmf_bits) (omega arith) refl (omega arith))
 
         pub dtmf_writes : (i u v₁ v₂ v₃ v₄ run : List ℕ) (e d₁ d₂ d₃ d₄ : Cursor) (n : ℕ) → 8 + chars.len ≤ length t → i ≡ cuei → Enveloped t 1 (6 + chars.len) i u e → n ≡ x.preroll
             → Pens u e (bits_of_num 8 n) v₁ d₁ → Pens v₁ d₁ (bits_of_num 3 chars.len) v₂ d₂ → Pens v₂ d₂ (bits_of_num 5 31) v₃ d₃ → run ≡ viewed lent chars → Pens v₃ d₃ (bits_of run) v₄ d₄
-            → Writes (enveloped_made 1 cuei D) t v₄ (Written.Wrote (8 + chars.len))
+            → Writes (enveloped_made 1 cuei D) t v₄ (Ok (8 + chars.len))
         dtmf_writes i u v₁ v₂ v₃ v₄ run e d₁ d₂ d₃ d₄ n k ei f en p q r er s =
             let z : 6 + chars.len ≡ 2 + chars.len + 4 = omega arith in
             let y : 8 + chars.len ≡ 2 + chars.len + 6 = omega arith in
@@ -198,7 +198,7 @@ module _ (tag : ℕ) (v : View) (id eidr lent t : List ℕ) (b : Bool) (eb : b �
   abbrev Held : Made
   Held = make private_table (writable_reserved tag id eidr) lent v
 
-  pub reserved_31 : not b ≡ true → Writes (enveloped_made tag id Held) t t (Written.Refused 31)
+  pub reserved_31 : not b ≡ true → Writes (enveloped_made tag id Held) t t (Err 31)
   unfolding private_table remaining part
   reserved_31 h = refuses tag id t Held 31 (rw (← eb, not-true b h))
 
@@ -212,7 +212,7 @@ module _ (tag : ℕ) (v : View) (id eidr lent t : List ℕ) (b : Bool) (eb : b �
         let s = bits_of (take v.len (drop v.at lent)) in
         length-append s [] ∙ omega (arith, length_bits (take v.len (drop v.at lent)), run_length lent v (sym eb ∙ not-false b h))
 
-    pub reserved_33 : not a ≡ true → Writes (enveloped_made tag id Held) t t (Written.Refused 33)
+    pub reserved_33 : not a ≡ true → Writes (enveloped_made tag id Held) t t (Err 33)
     reserved_33 l = refuses tag id t Held 33 (reserved_makes ∙ rw (not-true a l))
 
     module _ (l : not a ≡ false) where
@@ -222,15 +222,15 @@ module _ (tag : ℕ) (v : View) (id eidr lent t : List ℕ) (b : Bool) (eb : b �
       size : length (bytes_of (print private_contents)) ≡ v.len
       size = size_bytes (print private_contents) v.len reserved_bits
 
-      pub reserved_34 : 250 < v.len → Writes (enveloped_made tag id Held) t t (Written.Refused 34)
+      pub reserved_34 : 250 < v.len → Writes (enveloped_made tag id Held) t t (Err 34)
       reserved_34 k = rw reserved_made (writes_long tag id (bytes_of (print private_contents)) t v.len size k)
 
       module _ (few : v.len ≤ 250) where
-        pub reserved_36 : length t < 6 + v.len → Writes (enveloped_made tag id Held) t t (Written.Refused 36)
+        pub reserved_36 : length t < 6 + v.len → Writes (enveloped_made tag id Held) t t (Err 36)
         reserved_36 k = rw reserved_made (writes_short tag id (bytes_of (print private_contents)) t v.len size few four (omega arith))
 
         pub reserved_writes : (u v₁ run : List ℕ) (e d : Cursor) → 6 + v.len ≤ length t → Enveloped t tag (4 + v.len) id u e → run ≡ viewed lent v → Pens u e (bits_of run) v₁ d
-            → Writes (enveloped_made tag id Held) t v₁ (Written.Wrote (6 + v.len))
+            → Writes (enveloped_made tag id Held) t v₁ (Ok (6 + v.len))
         reserved_writes u v₁ run e d k f er s =
             let z : 4 + v.len ≡ v.len + 4 = omega arith in
             let y : 6 + v.len ≡ v.len + 6 = omega arith in

@@ -26,13 +26,13 @@ use Rattle.descriptor_measure.specs.Private.{head_fields, flag_fields, delivery_
 use Rattle.descriptor_measure.specs.Writing.{cuei, enveloped_made, segmentation_made, upid_in, upid_source, written_type, written_upid}
 use Rattle.descriptor_measure.proofs.Making.{zero_view, made_zero, made_size, made_bits}
 use Rattle.bit_stores.specs.Pen.{Pens}
-use Rattle.bit_stores.specs.declared.Written.{Written}
 use Rattle.bit_stores.proofs.Tables.{print_beside}
 use Rattle.descriptor_writer.specs.Stores.{Writes}
 use Rattle.descriptor_writer.specs.Private.{Stores, start, envelope_contents}
 use Rattle.descriptor_writer.proofs.Storing.{then, then_fields, same_print, put_bytes, number_then}
 use Rattle.descriptor_writer.proofs.Envelopes.{writes_long, writes_short, writes_stored}
 use Rattle.descriptor_writer.proofs.Plainly.{Enveloped, refuses}
+use Rattle.std.proofs.Common.{Ok, Err, Result}
 
 -- ---- sizes
 pub written_len : (u : SegmentationUpid) → u.bytes.len ≤ 255 → (written_upid u).bytes.len ≤ 255
@@ -132,7 +132,7 @@ module _ (x : SegmentationDescriptor) (cs : List SegmentationComponent) (eidr le
       rw is (then_fields src t c (head_fields x.segmentation_event_id false) (active_fields i cs) u d v e (s src) q)
 
 -- ---- with blank components
-pub with_blanks : (x : SegmentationDescriptor) (id eidr lent t v : List ℕ) (r : Written) (b : Beside) → b ≡ blank_beside
+pub with_blanks : (x : SegmentationDescriptor) (id eidr lent t v : List ℕ) (r : Result ℕ ℕ) (b : Beside) → b ≡ blank_beside
     → Writes (enveloped_made 2 cuei (segmentation_made x id (record { components = b.components; eidr = eidr }) lent)) t v r
     → Writes (enveloped_made 2 cuei (segmentation_made x id (record { components = filled []; eidr = eidr }) lent)) t v r
 unfolding blank_beside
@@ -147,7 +147,7 @@ module _ (x : SegmentationDescriptor) (id : List ℕ) (beside : Beside) (lent t 
   abbrev M : Made
   M = segmentation_made x id beside lent
 
-  pub segment_refused : (n ≡ 0 → ⊥) → Writes (enveloped_made 2 cuei M) t t (Written.Refused n)
+  pub segment_refused : (n ≡ 0 → ⊥) → Writes (enveloped_made 2 cuei M) t t (Err n)
   segment_refused h = refuses 2 cuei t M n (number_refused M n en h)
 
   pub segment_view : n ≡ 0 → ((upid_in x).bytes.len ≤ 255) × ((upid_in x).bytes.at + (upid_in x).bytes.len ≤ length lent)
@@ -165,15 +165,15 @@ module _ (x : SegmentationDescriptor) (id : List ℕ) (beside : Beside) (lent t 
       size : length (bytes_of (print cs)) ≡ k
       size = made_size x id beside lent all (bytes_of (print cs)) (segment_made_lem) ∙ sym ek
 
-      pub segment_long : 250 < k → Writes (enveloped_made 2 cuei M) t t (Written.Refused 34)
+      pub segment_long : 250 < k → Writes (enveloped_made 2 cuei M) t t (Err 34)
       segment_long h = rw (segment_made_lem) (writes_long 2 cuei (bytes_of (print cs)) t k size h)
 
       module _ (few : k ≤ 250) where
-        pub segment_short : length t < k + 6 → Writes (enveloped_made 2 cuei M) t t (Written.Refused 36)
+        pub segment_short : length t < k + 6 → Writes (enveloped_made 2 cuei M) t t (Err 36)
         segment_short h = rw (segment_made_lem) (writes_short 2 cuei (bytes_of (print cs)) t k size few refl h)
 
         pub segment_writes : (i u v : List ℕ) (e d : Cursor) → k + 6 ≤ length t → i ≡ cuei → Enveloped t 2 (k + 4) i u e → Stores u e cs v d
-            → Writes (enveloped_made 2 cuei M) t v (Written.Wrote (k + 6))
+            → Writes (enveloped_made 2 cuei M) t v (Ok (k + 6))
         segment_writes i u v e d room ei f s =
             let g : Enveloped t 2 (k + 4) cuei u e = subst (λ (j : List ℕ). Enveloped t 2 (k + 4) j u e) ei f in
             let b : length (print cs) ≡ k * 8 = made_bits x id beside lent all (bytes_of (print cs)) (segment_made_lem) ∙ ap (λ (m : ℕ). m * 8) (sym ek) in

@@ -2,7 +2,7 @@
 --     then                              storing cs and then ds is storing both
 --     put_number, put_bytes, put_none   one field; none
 --     put_joined                        several fields as one number
-use Prim.Native.Nat.{ℕ, ◌+◌, ◌<◌, ◌≤◌}
+use Prim.Native.Nat.{ℕ, ◌+◌, ◌<◌}
 use mathlib.Core.List.{List, [], ◌∷◌, ◌++◌, append_assoc}
 use mathlib.Core.Path.{◌≡◌, refl, ap, sym, ◌∙◌}
 use native.Mathlib.Numerals.{add-one}
@@ -86,7 +86,3 @@ component_next l t c cs i u d v e h p q =
     let y : take (i + 1) cs ≡ take i cs ++ (m ∷ []) = rw (add-one i) (take-suc cs i blank_component h) in
     let z : components_fields (take (i + 1) cs) ≡ components_fields (take i cs) ++ components_fields (m ∷ []) = ap components_fields y ∙ components_append (take i cs) (m ∷ []) in
     rw z (then_fields l t c (components_fields (take i cs)) (components_fields (m ∷ [])) u d v e p q)
-
-pub components_all : (l t : List ℕ) (c : Cursor) (cs : List SegmentationComponent) (i n : ℕ) (u : List ℕ) (d : Cursor) → n ≤ i → i ≤ n → Stores t c (contents l (components_fields (take i cs))) u d
-    → Stores t c (contents l (components_fields (take n cs))) u d
-components_all l t c cs i n u d h k s = let z : i ≡ n = omega arith in rw z at s

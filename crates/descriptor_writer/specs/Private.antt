@@ -1,5 +1,5 @@
 -- What the contracts of private functions say. No public contract cites this.
-use Rattle.std.specs.Prelude.{ℕ, List, [], ◌∷◌, ◌≡◌, length, take}
+use Rattle.std.specs.Prelude.{ℕ, List, [], ◌∷◌, ◌≡◌, length, take, Result}
 use Rattle.table.specs.Bits.{bytes_of}
 use Rattle.table.specs.Writing.{Content, number, bytes, contents, print, refusal_in}
 use Rattle.table.specs.declared.cursor.Cursor.{Cursor}
@@ -10,7 +10,6 @@ use Rattle.descriptor_measure.specs.Private.{components_fields}
 use Rattle.descriptor_measure.specs.Writing.{cuei, enveloped_made, segmentation_made}
 use Rattle.bit_stores.specs.Pen.{Pens}
 use Rattle.bit_stores.specs.Private.{Fits}
-use Rattle.bit_stores.specs.declared.Written.{Written}
 use Rattle.descriptor_writer.specs.Stores.{Writes}
 
 -- contents stored from a cursor on, where there is room for them
@@ -31,7 +30,7 @@ component_bytes cs = bytes_of (print (contents [] (components_fields cs)))
 
 -- A segmentation descriptor that nothing of 31 to 33 refuses was written, with these bytes of its components: as the writer makes it of whatever identifier
 -- and components that is.
-pub record WritesTested (x : SegmentationDescriptor) (listed eidr lent target later : List ℕ) (r : Written) : Type 0 where
+pub record WritesTested (x : SegmentationDescriptor) (listed eidr lent target later : List ℕ) (r : Result ℕ ℕ) : Type 0 where
   pub writable : (identifier : List ℕ) (components : List SegmentationComponent) → length components ≡ 255
       → refusal_in (segmentation_made x identifier (record { components = components; eidr = eidr }) lent) ≡ 0
       → listed ≡ component_bytes (take (component_count x) components)

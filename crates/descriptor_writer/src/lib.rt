@@ -9,7 +9,6 @@ ghost use Rattle.descriptor_writer.specs.Stores.{Writes};
 
 use crate::plain::{write_avail, write_dtmf, write_reserved, write_time};
 use crate::segmentation::{write_segmentation, write_segmentation_without_components};
-use bit_stores::Written;
 use descriptor::Descriptor;
 use descriptor::full::Beside;
 
@@ -26,7 +25,7 @@ pub fn write_descriptor_without_components(
     eidr: [u8; 12],
     lent: &[u8],
     target: &mut [u8],
-) -> Written
+) -> Result<usize, u8>
     ensures { Writes (descriptor_made d identifier (record { components = filled []; eidr = eidr }) lent.now) target.old target.new result }
 {
     match d {
@@ -49,7 +48,7 @@ pub fn write_descriptor(
     beside: Beside,
     lent: &[u8],
     target: &mut [u8],
-) -> Written
+) -> Result<usize, u8>
     ensures { Writes (descriptor_made d identifier beside lent.now) target.old target.new result }
 {
     let eidr = beside.eidr;

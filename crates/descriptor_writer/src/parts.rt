@@ -8,8 +8,8 @@ ghost use Rattle.descriptor_writer.specs.Private.{Stores, component_bytes};
 
 use bit_stores::{put_bits, put_run};
 use descriptor::segmentation::{
-    DeliveryRestrictionFlags, MAX_COMPONENTS, SegmentationComponent, SegmentationDetail,
-    SegmentationDuration, SegmentationMode, SubSegments,
+    DeliveryRestrictions, MAX_COMPONENTS, SegmentationComponent, SegmentationDetail,
+    SegmentationMode, SubSegment,
 };
 use table::cursor::Cursor;
 use table::numbers::{flag_number, wide};
@@ -26,17 +26,17 @@ pub(crate) fn store_head(out: &mut [u8], c: Cursor, event: u32, cancel: bool) ->
 }
 
 // The five bits behind the flags: what is restricted, or reserved bits.
-fn delivery_number(delivery: DeliveryRestrictionFlags) -> u64
+fn delivery_number(delivery: Option<DeliveryRestrictions>) -> u64
     ensures { (result < 32) × ((from : List ℕ) → print (contents from (delivery_fields delivery)) ≡ print (number 5 result ∷ [])) }
 {
     match delivery {
-        DeliveryRestrictionFlags::None => 31,
-        DeliveryRestrictionFlags::DeliveryRestrictions(r) => {
+        None => 31,
+        Some(r) => {
             let device = r.device_restrictions;
             let web = flag_number(r.web_delivery_allowed_flag);
             let blackout = flag_number(r.no_regional_blackout_flag);
             let archive = flag_number(r.archive_allowed_flag);
-            web * 16 + blackout * 8 + archive * 4 + wide(device.bits())
+            web * 16 + blackout * 8 + archive * 4 + wide(device.into())
         }
     }
 }
@@ -48,7 +48,7 @@ pub(crate) fn store_flags(
     program: bool,
     lasts: bool,
     free: bool,
-    delivery: DeliveryRestrictionFlags,
+    delivery: Option<DeliveryRestrictions>,
 ) -> Cursor
     ensures { (from : List ℕ) → Stores out.old c (contents from (flag_fields program lasts free ++ delivery_fields delivery)) out.new result }
 {
@@ -83,11 +83,8 @@ pub(crate) fn store_components(
     ensures { (from : List ℕ) → Stores out.old c (contents from (components_fields (take n components))) out.new result }
 {
     let mut next = put_bits(out, c, 0, 0);
-    let mut i: usize = 0;
-    while i < n {
-        let component = components[i];
+    for &component in &components[..n] {
         next = store_component(out, next, component);
-        i += 1;
     }
     next
 }
@@ -105,21 +102,21 @@ pub(crate) fn store_mode(out: &mut [u8], c: Cursor, mode: SegmentationMode, list
     }
 }
 
-pub(crate) fn store_duration(out: &mut [u8], c: Cursor, duration: SegmentationDuration) -> Cursor
+pub(crate) fn store_duration(out: &mut [u8], c: Cursor, duration: Option<u64>) -> Cursor
     ensures { (from : List ℕ) → Stores out.old c (contents from (duration_fields duration)) out.new result }
 {
     match duration {
-        SegmentationDuration::Absent => put_bits(out, c, 0, 0),
-        SegmentationDuration::Ticks(t) => put_bits(out, c, 40, t),
+        None => put_bits(out, c, 0, 0),
+        Some(t) => put_bits(out, c, 40, t),
     }
 }
 
-fn store_sub_segments(out: &mut [u8], c: Cursor, sub_segments: SubSegments) -> Cursor
+fn store_sub_segments(out: &mut [u8], c: Cursor, sub_segments: Option<SubSegment>) -> Cursor
     ensures { (from : List ℕ) → Stores out.old c (contents from (sub_fields sub_segments)) out.new result }
 {
     match sub_segments {
-        SubSegments::Absent => put_bits(out, c, 0, 0),
-        SubSegments::Is(x) => {
+        None => put_bits(out, c, 0, 0),
+        Some(x) => {
             let second = put_bits(out, c, 8, wide(x.sub_segment_num));
             put_bits(out, second, 8, wide(x.sub_segments_expected))
         }
@@ -131,7 +128,7 @@ pub(crate) fn store_back(out: &mut [u8], c: Cursor, i: SegmentationDetail) -> Cu
 {
     let type_id = i.segmentation_type_id;
     let sub_segments = i.sub_segments;
-    let second = put_bits(out, c, 8, wide(type_id.id()));
+    let second = put_bits(out, c, 8, wide(type_id.into()));
     let third = put_bits(out, second, 8, wide(i.segment_num));
     let fourth = put_bits(out, third, 8, wide(i.segments_expected));
     store_sub_segments(out, fourth, sub_segments)

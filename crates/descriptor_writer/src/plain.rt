@@ -6,7 +6,7 @@ ghost use Rattle.table.specs.Writing.{make};
 ghost use Rattle.descriptor_writer.specs.Stores.{Writes};
 
 use crate::envelope::{MAX_PAYLOAD, cuei, store_envelope};
-use bit_stores::{Written, put_bits, put_run};
+use bit_stores::{put_bits, put_run};
 use descriptor::plain::{AvailDescriptor, DTMFDescriptor, TimeDescriptor};
 use descriptor_measure::{is_alone, is_writable_reserved};
 use table::View;
@@ -18,19 +18,19 @@ pub(crate) fn write_avail(
     identifier: [u8; 4],
     eidr: [u8; 12],
     target: &mut [u8],
-) -> Written
+) -> Result<usize, u8>
     ensures { Writes (enveloped_made 0 cuei (make avail (alone identifier eidr) [] x)) target.old target.new result }
 {
     if !is_alone(identifier, eidr) {
-        return Written::Refused(33);
+        return Err(33);
     }
     if target.len() < 10 {
-        return Written::Refused(36);
+        return Err(36);
     }
     let id = cuei();
     let c = store_envelope(target, 0, 8, &id[..]);
     let _last = put_bits(target, c, 32, x.provider_avail_id as u64);
-    Written::Wrote(10)
+    Ok(10)
 }
 
 pub(crate) fn write_time(
@@ -38,24 +38,24 @@ pub(crate) fn write_time(
     identifier: [u8; 4],
     eidr: [u8; 12],
     target: &mut [u8],
-) -> Written
+) -> Result<usize, u8>
     ensures { Writes (enveloped_made 3 cuei (make time (alone identifier eidr) [] x)) target.old target.new result }
 {
     if 0xffff_ffff_ffff < x.tai_seconds {
-        return Written::Refused(32);
+        return Err(32);
     }
     if !is_alone(identifier, eidr) {
-        return Written::Refused(33);
+        return Err(33);
     }
     if target.len() < 18 {
-        return Written::Refused(36);
+        return Err(36);
     }
     let id = cuei();
     let c = store_envelope(target, 3, 16, &id[..]);
     let second = put_bits(target, c, 48, x.tai_seconds);
     let third = put_bits(target, second, 32, x.tai_nanoseconds as u64);
     let _last = put_bits(target, third, 16, x.utc_offset as u64);
-    Written::Wrote(18)
+    Ok(18)
 }
 
 pub(crate) fn write_dtmf(
@@ -64,21 +64,21 @@ pub(crate) fn write_dtmf(
     eidr: [u8; 12],
     lent: &[u8],
     target: &mut [u8],
-) -> Written
+) -> Result<usize, u8>
     ensures { Writes (enveloped_made 1 cuei (make dtmf (alone identifier eidr) lent.now x)) target.old target.new result }
 {
     let chars = x.dtmf_chars;
     if !lies_in(lent, chars) {
-        return Written::Refused(31);
+        return Err(31);
     }
     if 7 < chars.len {
-        return Written::Refused(32);
+        return Err(32);
     }
     if !is_alone(identifier, eidr) {
-        return Written::Refused(33);
+        return Err(33);
     }
     if target.len() < 8 + chars.len {
-        return Written::Refused(36);
+        return Err(36);
     }
     let id = cuei();
     let c = store_envelope(target, 1, 6 + chars.len, &id[..]);
@@ -87,7 +87,7 @@ pub(crate) fn write_dtmf(
     let fourth = put_bits(target, third, 5, 31);
     let part = view(lent, chars);
     let _last = put_run(target, fourth, part);
-    Written::Wrote(8 + chars.len)
+    Ok(8 + chars.len)
 }
 
 pub(crate) fn write_reserved(
@@ -97,23 +97,23 @@ pub(crate) fn write_reserved(
     eidr: [u8; 12],
     lent: &[u8],
     target: &mut [u8],
-) -> Written
+) -> Result<usize, u8>
     ensures { Writes (enveloped_made tag identifier (make private_table (writable_reserved tag identifier eidr) lent.now private_bytes)) target.old target.new result }
 {
     if !lies_in(lent, private_bytes) {
-        return Written::Refused(31);
+        return Err(31);
     }
     if !is_writable_reserved(tag, identifier, eidr) {
-        return Written::Refused(33);
+        return Err(33);
     }
     if MAX_PAYLOAD < private_bytes.len {
-        return Written::Refused(34);
+        return Err(34);
     }
     if target.len() < 6 + private_bytes.len {
-        return Written::Refused(36);
+        return Err(36);
     }
     let c = store_envelope(target, tag, 4 + private_bytes.len, &identifier[..]);
     let part = view(lent, private_bytes);
     let _last = put_run(target, c, part);
-    Written::Wrote(6 + private_bytes.len)
+    Ok(6 + private_bytes.len)
 }

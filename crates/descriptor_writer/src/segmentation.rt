@@ -14,7 +14,7 @@ use crate::envelope::{MAX_PAYLOAD, cuei, store_envelope};
 use crate::parts::{
     store_back, store_components, store_duration, store_flags, store_head, store_mode,
 };
-use bit_stores::{Written, put_bits, put_run};
+use bit_stores::{put_bits, put_run};
 use descriptor::full::blank_beside;
 use descriptor::segmentation::{
     DescriptorDetail, MAX_COMPONENTS, SegmentationComponent, SegmentationDescriptor,
@@ -130,21 +130,21 @@ fn write_tested_segmentation(
     eidr: [u8; 12],
     lent: &[u8],
     target: &mut [u8],
-) -> Written
+) -> Result<usize, u8>
     requires { ((upid_in x).bytes.len ≤ 255) × ((upid_in x).bytes.at + (upid_in x).bytes.len ≤ length lent.now) }
     ensures { WritesTested x listed.now eidr lent.now target.old target.new result }
 {
     let size = size_of(x);
     if MAX_PAYLOAD < size {
-        return Written::Refused(34);
+        return Err(34);
     }
     if target.len() < size + 6 {
-        return Written::Refused(36);
+        return Err(36);
     }
     let id = cuei();
     let c = store_envelope(target, 2, size + 4, &id[..]);
     let _last = store_segmentation(target, c, x, listed, eidr, lent);
-    Written::Wrote(size + 6)
+    Ok(size + 6)
 }
 
 pub(crate) fn write_segmentation(
@@ -154,12 +154,12 @@ pub(crate) fn write_segmentation(
     eidr: [u8; 12],
     lent: &[u8],
     target: &mut [u8],
-) -> Written
+) -> Result<usize, u8>
     ensures { Writes (enveloped_made 2 cuei (segmentation_made x identifier (record { components = components; eidr = eidr }) lent.now)) target.old target.new result }
 {
     let refusal = refusal_of_segmentation(x, identifier, components, eidr, lent);
     if refusal != 0 {
-        return Written::Refused(refusal);
+        return Err(refusal);
     }
     let n = count_in_segmentation(x) as usize;
     let mut room = [0u8; 1530];
@@ -175,7 +175,7 @@ pub(crate) fn write_segmentation_without_components(
     eidr: [u8; 12],
     lent: &[u8],
     target: &mut [u8],
-) -> Written
+) -> Result<usize, u8>
     ensures { Writes (enveloped_made 2 cuei (segmentation_made x identifier (record { components = filled []; eidr = eidr }) lent.now)) target.old target.new result }
 {
     if 0 < count_in_segmentation(x) {
@@ -185,7 +185,7 @@ pub(crate) fn write_segmentation_without_components(
     }
     let refusal = refusal_with_no_components(x, identifier, eidr, lent);
     if refusal != 0 {
-        return Written::Refused(refusal);
+        return Err(refusal);
     }
     // no bytes of components
     write_tested_segmentation(x, &lent[0..0], eidr, lent, target)

@@ -21,11 +21,10 @@ use Rattle.table.proofs.Structure as laws
 use Rattle.table.proofs.Telling.{tells_number, tells_flag}
 use Rattle.header_numbers.specs.Numbers.{numbers_in, numbers_read}
 use Rattle.header_numbers.specs.declared.HeaderNumbers.{HeaderNumbers}
-use Rattle.header_numbers.specs.declared.NumbersRead.{NumbersRead}
 use Rattle.header_numbers.proofs.Places.{numbers_told, none_told}
 use Rattle.header.specs.Header.{splice_header, header_read, header_of}
-use Rattle.header.specs.declared.header.HeaderRead.TheVariants.{Header, NoHeader}
 use Rattle.header.specs.declared.header.SpliceInfoHeader.{SpliceInfoHeader}
+use Rattle.std.proofs.Common.{Some, None}
 
 -- ---- eleven bytes are a header
 pub header_got : (s : List ℕ) → 11 ≤ length s → parse splice_header (bits_of s) 0 ≡ got (record {
@@ -104,11 +103,11 @@ structure = record {
 }
 
 -- ---- eleven bytes and no fewer
-read : (s : List ℕ) (x : SpliceInfoHeader) → length s ≡ 11 → header_of s ≡ Header x → parse splice_header (bits_of s) 0 ≡ got x (length s * 8)
+read : (s : List ℕ) (x : SpliceInfoHeader) → length s ≡ 11 → header_of s ≡ Some x → parse splice_header (bits_of s) 0 ≡ got x (length s * 8)
 unfolding header_of header_read
 read s x n e =
     let g = header_got s (omega arith) in
-    let h : Header _ ≡ Header x = sym (ap header_read g) ∙ e in
+    let h : Some _ ≡ Some x = sym (ap header_read g) ∙ e in
     g ∙ ap₂ got (cc) (omega arith)
 
 too_short : (s : List ℕ) (y : SpliceInfoHeader) (m : ℕ) → length s < 11 → parse splice_header (bits_of s) 0 ≡ got y m → ⊥
@@ -123,17 +122,17 @@ too_short s y m h e =
     let e₇ = (reads_number s 68 12 _ _ y m e₆).1 in
     omega (arith, (reads_number s 80 8 _ _ y m e₇).0)
 
-refused : (r : Answer SpliceInfoHeader) → ((y : SpliceInfoHeader) (m : ℕ) → r ≡ got y m → ⊥) → header_read r ≡ NoHeader
+refused : (r : Answer SpliceInfoHeader) → ((y : SpliceInfoHeader) (m : ℕ) → r ≡ got y m → ⊥) → header_read r ≡ None
 unfolding header_read
 refused (got y m) f = absurd (f y m refl)
 refused (short e a) f = refl
 
 -- 01: "5 | .. a header alone under 11, its only refusal"
-pub header_refused : (s : List ℕ) → length s < 11 → header_of s ≡ NoHeader
+pub header_refused : (s : List ℕ) → length s < 11 → header_of s ≡ None
 unfolding header_of
 header_refused s h = refused (parse splice_header (bits_of s) 0) (λ y m e. too_short s y m h e)
 
-pub header_there : (s : List ℕ) → 11 ≤ length s → (x : SpliceInfoHeader) × (header_of s ≡ Header x)
+pub header_there : (s : List ℕ) → 11 ≤ length s → (x : SpliceInfoHeader) × (header_of s ≡ Some x)
 unfolding header_of header_read
 header_there s h = (_, ap header_read (header_got s h))
 
@@ -152,14 +151,14 @@ named n =
       splice_command_type = command_type_of n.splice_command_type;
     }
 
-pub header_of_numbers : (s : List ℕ) → 11 ≤ length s → header_of s ≡ Header (named (numbers_in s))
+pub header_of_numbers : (s : List ℕ) → 11 ≤ length s → header_of s ≡ Some (named (numbers_in s))
 unfolding header_of header_read numbers_in
 header_of_numbers s h = ap header_read (header_got s h)
 
-pub header_named : (s : List ℕ) (n : HeaderNumbers) → NumbersRead.Numbers n ≡ numbers_read s → Header (named n) ≡ header_of s
+pub header_named : (s : List ℕ) (n : HeaderNumbers) → Some n ≡ numbers_read s → Some (named n) ≡ header_of s
 header_named s n e = let k = numbers_told s n e in rw (header_of_numbers s k.0, k.1)
 
-pub header_missing : (s : List ℕ) → NumbersRead.NoHeader ≡ numbers_read s → NoHeader ≡ header_of s
+pub header_missing : (s : List ℕ) → None ≡ numbers_read s → None ≡ header_of s
 header_missing s e = sym (header_refused s (none_told s e))
 
 -- ---- the round trips
@@ -177,10 +176,10 @@ pub header_write_read : (lent : List ℕ) (x : SpliceInfoHeader) (b r : List ℕ
 header_write_read lent x b r e = (laws.write_read splice_header structure lent x b r tt e tt).0
 
 -- eleven bytes are what is written of their reading
-pub header_read_write : (s : List ℕ) (x : SpliceInfoHeader) → AllBytes s → length s ≡ 11 → header_of s ≡ Header x → make splice_header (writable_header x) s x ≡ made s
+pub header_read_write : (s : List ℕ) (x : SpliceInfoHeader) → AllBytes s → length s ≡ 11 → header_of s ≡ Some x → make splice_header (writable_header x) s x ≡ made s
 header_read_write s x a n e = laws.read_write_all splice_header structure s x a (read s x n e) (nothing_asked (bits_of s))
 
 -- and no two have one reading
-pub header_one : (s r : List ℕ) (x : SpliceInfoHeader) → AllBytes s → AllBytes r → length s ≡ 11 → length r ≡ 11 → header_of s ≡ Header x → header_of r ≡ Header x → s ≡ r
+pub header_one : (s r : List ℕ) (x : SpliceInfoHeader) → AllBytes s → AllBytes r → length s ≡ 11 → length r ≡ 11 → header_of s ≡ Some x → header_of r ≡ Some x → s ≡ r
 header_one s r x a b n m e f =
     laws.write_one splice_header structure s r x x a b (read s x n e) (read r x m f) (nothing_asked (bits_of s)) (nothing_asked (bits_of r)) (no_view_lem s r x)

@@ -6,10 +6,10 @@ use Rattle.names.specs.Algorithm.{algorithm_of}
 use Rattle.names.specs.Command.{command_type_of}
 use Rattle.table.specs.Table.{number, bit}
 use Rattle.header.specs.Header.{splice_header, header_read, header_of, number_of}
-use Rattle.header.specs.declared.header.HeaderRead.TheVariants.{Header}
+use Rattle.std.proofs.Common.{Some}
 
 -- 00 00 00 00 00 00 FF FF F0 05 06: the header of the standard's first sample
-pub sample : header_of (0 ∷ 0 ∷ 0 ∷ 0 ∷ 0 ∷ 0 ∷ 0xff ∷ 0xff ∷ 0xf0 ∷ 5 ∷ 6 ∷ []) ≡ Header (record {
+pub sample : header_of (0 ∷ 0 ∷ 0 ∷ 0 ∷ 0 ∷ 0 ∷ 0xff ∷ 0xff ∷ 0xf0 ∷ 5 ∷ 6 ∷ []) ≡ Some (record {
   protocol_version = 0;
   encrypted_packet = false;
   encryption_algorithm = algorithm_of 0;

@@ -1,11 +1,9 @@
 -- The splice header. 01, "Section".
-use Rattle.std.specs.Prelude.{ℕ, List}
+use Rattle.std.specs.Prelude.{ℕ, List, Some, None, Option}
 use Rattle.names.specs.Algorithm.{algorithm_number, algorithm_of}
 use Rattle.names.specs.Command.{command_number, command_type_of}
 use Rattle.table.specs.Bits.{bits_of}
 use Rattle.table.specs.Table.{Table, done, uimsbf, flag, Answer, got, short, parse}
-use Rattle.header.specs.declared.header.HeaderRead.{HeaderRead}
-use Rattle.header.specs.declared.header.HeaderRead.TheVariants.{Header, NoHeader}
 use Rattle.header.specs.declared.header.SpliceInfoHeader.{SpliceInfoHeader}
 
 -- "protocol_version 8, encrypted 1, algorithm 6, pts_adjustment 33, cw_index 8, tier 12, command length 12, command type 8"
@@ -31,14 +29,14 @@ splice_header =
     })
 
 -- what a reader answers: the header, or refusal 5
-unfoldable pub header_read : Answer SpliceInfoHeader → HeaderRead
-header_read (got h at) = Header h
-header_read (short expected actual) = NoHeader
+unfoldable pub header_read : Answer SpliceInfoHeader → Option SpliceInfoHeader
+header_read (got h at) = Some h
+header_read (short expected actual) = None
 
-unfoldable pub header_of : List ℕ → HeaderRead
+unfoldable pub header_of : List ℕ → Option SpliceInfoHeader
 header_of s = header_read (parse splice_header (bits_of s) 0)
 
 -- 01's number of the refusal; it has no values
-abbrev pub number_of : HeaderRead → ℕ
-number_of (Header h) = 0
-number_of NoHeader = 5
+abbrev pub number_of : Option SpliceInfoHeader → ℕ
+number_of (Some h) = 0
+number_of None = 5

@@ -2,7 +2,7 @@
 ghost use Rattle.std.specs.Prelude.{◌≡◌};
 ghost use Rattle.header.specs.Header.{header_of};
 
-use header_numbers::{NumbersRead, read_header_numbers};
+use header_numbers::read_header_numbers;
 use names::algorithm::EncryptionAlgorithm;
 use names::command::SpliceCommandType;
 
@@ -18,28 +18,21 @@ pub struct SpliceInfoHeader {
     pub splice_command_type: SpliceCommandType,
 }
 
-// A header, or refusal 5.
-#[derive(Clone, Copy)]
-pub enum HeaderRead {
-    Header(SpliceInfoHeader),
-    NoHeader,
-}
-
 // The header in the first eleven bytes: its numbers, of which algorithm and type are named.
-pub fn read_header(s: &[u8]) -> HeaderRead
+pub fn read_header(s: &[u8]) -> Option<SpliceInfoHeader>
     ensures { result ≡ header_of s.now }
 {
     match read_header_numbers(s) {
-        NumbersRead::Numbers(n) => HeaderRead::Header(SpliceInfoHeader {
+        Some(n) => Some(SpliceInfoHeader {
             protocol_version: n.protocol_version,
             encrypted_packet: n.encrypted_packet,
-            encryption_algorithm: EncryptionAlgorithm::from_id(n.encryption_algorithm),
+            encryption_algorithm: EncryptionAlgorithm::from(n.encryption_algorithm),
             pts_adjustment: n.pts_adjustment,
             cw_index: n.cw_index,
             tier: n.tier,
             splice_command_length: n.splice_command_length,
-            splice_command_type: SpliceCommandType::from_id(n.splice_command_type),
+            splice_command_type: SpliceCommandType::from(n.splice_command_type),
         }),
-        NumbersRead::NoHeader => HeaderRead::NoHeader,
+        None => None,
     }
 }

@@ -1,10 +1,8 @@
 -- The numbers of a splice header by their places in its bytes. That these are the places of its table (`splice_header`, crate header) is proved there
 -- (`header_of_numbers`): nobody who believes the table need believe them.
-use Rattle.std.specs.Prelude.{ℕ, List, eqb, ltb, length}
+use Rattle.std.specs.Prelude.{ℕ, List, eqb, ltb, length, Some, None, Option}
 use Rattle.table.specs.Bits.{bits_of, field, pick}
 use Rattle.header_numbers.specs.declared.HeaderNumbers.{HeaderNumbers}
-use Rattle.header_numbers.specs.declared.NumbersRead.{NumbersRead}
-use Rattle.header_numbers.specs.declared.NumbersRead.TheVariants.{Numbers, NoHeader}
 
 unfoldable pub numbers_in : List ℕ → HeaderNumbers
 numbers_in s =
@@ -20,5 +18,5 @@ numbers_in s =
     }
 
 -- eleven bytes, and no fewer
-unfoldable pub numbers_read : List ℕ → NumbersRead
-numbers_read s = pick (ltb (length s) 11) NoHeader (Numbers (numbers_in s))
+unfoldable pub numbers_read : List ℕ → Option HeaderNumbers
+numbers_read s = pick (ltb (length s) 11) None (Some (numbers_in s))

@@ -19,22 +19,15 @@ pub struct HeaderNumbers {
     pub splice_command_type: u8,
 }
 
-// The numbers, or refusal 5.
-#[derive(Clone, Copy)]
-pub enum NumbersRead {
-    Numbers(HeaderNumbers),
-    NoHeader,
-}
-
 // The numbers in the first eleven bytes.
-pub fn read_header_numbers(s: &[u8]) -> NumbersRead
+pub fn read_header_numbers(s: &[u8]) -> Option<HeaderNumbers>
     ensures { result ≡ numbers_read s.now }
 {
     if s.len() < 11 {
-        return NumbersRead::NoHeader;
+        return None;
     }
     let flags = wide(s[1]);
-    NumbersRead::Numbers(HeaderNumbers {
+    Some(HeaderNumbers {
         protocol_version: s[0],
         encrypted_packet: flags / 128 == 1,
         encryption_algorithm: (flags / 2 % 64) as u8,

@@ -5,43 +5,24 @@ ghost use Rattle.std.specs.Prelude.{◌≤◌, length};
 
 use descriptor::Descriptor;
 use descriptor::segmentation::{DescriptorDetail, SegmentationDescriptor, SegmentationUpid};
-use descriptor_loop::iteration::{Counted, count_items, step};
-use descriptor_loop::{Item, ItemRefusal};
+use descriptor_loop::ItemRefusal;
+use descriptor_loop::iteration::{count_items, step};
 use read_input::read_full;
 use std::io;
 use upid::{Refusal, UPID_EIDR};
 
-// A space and a number.
-fn value(rt: &impl Print, x: u64) -> io::Result<()> {
-    print!(rt; " {x}")
-}
-
+// `run_vectors` has another, which prints a text's bytes too.
 fn print_refusal(rt: &impl Print, r: Refusal) -> io::Result<()> {
     match r {
         Refusal::InputTooLong => print!(rt; " refused 2"),
-        Refusal::NotEnoughData { expected, actual } => {
-            print!(rt; " short")?;
-            value(rt, expected as u64)?;
-            value(rt, actual as u64)
-        }
+        Refusal::NotEnoughData { expected, actual } => print!(rt; " short {expected} {actual}"),
         Refusal::UpidLengthTypeMismatch => print!(rt; " mismatch 0"),
-        Refusal::InvalidUpidContent {
-            upid_type,
-            bytes: _,
-        } => {
-            print!(rt; " text")?;
-            value(rt, upid_type as u64)
-        }
+        Refusal::InvalidUpidContent { upid_type, .. } => print!(rt; " text {upid_type}"),
         Refusal::InvalidUpidLength {
             upid_type,
             expected,
             actual,
-        } => {
-            print!(rt; " length")?;
-            value(rt, upid_type as u64)?;
-            value(rt, expected as u64)?;
-            value(rt, actual as u64)
-        }
+        } => print!(rt; " length {upid_type} {expected} {actual}"),
     }
 }
 
@@ -50,92 +31,74 @@ fn upid_length(u: SegmentationUpid) -> usize {
     if u.upid_type == UPID_EIDR {
         return 12;
     }
-    let bytes = u.bytes;
-    bytes.len
+    u.bytes.len
 }
 
 fn print_segmentation(rt: &impl Print, s: SegmentationDescriptor) -> io::Result<()> {
-    let detail = s.descriptor_detail;
-    match detail {
-        DescriptorDetail::Cancel => {
-            print!(rt; " cancel")?;
-            value(rt, s.segmentation_event_id as u64)
-        }
+    let event = s.segmentation_event_id;
+    match s.descriptor_detail {
+        DescriptorDetail::Cancel => print!(rt; " cancel {event}"),
         DescriptorDetail::Active(active) => {
-            let type_id = active.segmentation_type_id;
             let upid = active.segmentation_upid;
-            print!(rt; " segment")?;
-            value(rt, s.segmentation_event_id as u64)?;
-            value(rt, type_id.id() as u64)?;
-            value(rt, upid.upid_type as u64)?;
-            value(rt, upid_length(upid) as u64)
+            print!(rt;
+                " segment {event} {}",
+                u8::from(active.segmentation_type_id)
+            )?;
+            print!(rt; " {} {}", upid.upid_type, upid_length(upid))
         }
     }
 }
 
 fn print_descriptor(rt: &impl Print, d: Descriptor) -> io::Result<()> {
     match d {
-        Descriptor::Avail(avail) => {
-            print!(rt; " avail")?;
-            value(rt, avail.provider_avail_id as u64)
-        }
-        Descriptor::Dtmf(dtmf) => {
-            let chars = dtmf.dtmf_chars;
-            print!(rt; " dtmf")?;
-            value(rt, dtmf.preroll as u64)?;
-            value(rt, chars.len as u64)
-        }
+        Descriptor::Avail(avail) => print!(rt; " avail {}", avail.provider_avail_id),
+        Descriptor::Dtmf(dtmf) => print!(rt; " dtmf {} {}", dtmf.preroll, dtmf.dtmf_chars.len),
         Descriptor::Segmentation(s) => print_segmentation(rt, s),
-        Descriptor::Time(time) => {
-            print!(rt; " time")?;
-            value(rt, time.tai_seconds)?;
-            value(rt, time.tai_nanoseconds as u64)?;
-            value(rt, time.utc_offset as u64)
+        Descriptor::Time(t) => {
+            print!(rt;
+                " time {} {} {}",
+                t.tai_seconds, t.tai_nanoseconds, t.utc_offset
+            )
         }
         Descriptor::Reserved { tag, private_bytes } => {
-            print!(rt; " reserved")?;
-            value(rt, tag as u64)?;
-            value(rt, private_bytes.len as u64)
+            print!(rt; " reserved {tag} {}", private_bytes.len)
         }
     }
 }
 
-fn print_item(rt: &impl Print, item: Item) -> io::Result<()> {
+fn print_item(rt: &impl Print, item: Option<Result<Descriptor, ItemRefusal>>) -> io::Result<()> {
     match item {
-        Item::End => Ok(()),
-        Item::Refused(refusal) => match refusal {
-            ItemRefusal::InvalidDescriptorLength => print!(rt; " badlength 255"),
-            ItemRefusal::Other(r) => print_refusal(rt, r),
-        },
-        Item::Is(d) => print_descriptor(rt, d),
+        None => Ok(()),
+        Some(Err(ItemRefusal::InvalidDescriptorLength)) => print!(rt; " badlength 255"),
+        Some(Err(ItemRefusal::Other(r))) => print_refusal(rt, r),
+        Some(Ok(d)) => print_descriptor(rt, d),
     }
 }
 
 // Every item of a loop that is not too long.
+#[tactic(auto, using(descriptor_loop::proofs::Lists::step_forward))]
 fn print_items(rt: &impl Print, bytes: &[u8]) -> io::Result<()>
     requires { length bytes.now ≤ 4076 }
 {
     let mut offset: usize = 0;
+    // Each step says where the next item starts, so this counts no index.
     while offset < bytes.len() {
         let s = step(bytes, offset);
-        let item = s.item;
         let next = s.next;
-        print!(rt; "{offset}")?;
-        value(rt, (next - offset) as u64)?;
-        print_item(rt, item)?;
+        print!(rt; "{offset} {}", next - offset)?;
+        print_item(rt, s.item)?;
         println!(rt)?;
         offset = next;
     }
     Ok(())
 }
 
+#[tactic(auto, using(descriptor_loop::proofs::Theorems::counted_fits))]
 fn list(rt: &impl Print, bytes: &[u8]) -> io::Result<()> {
     match count_items(bytes) {
-        Counted::Refused(_) => println!(rt; "refused 2"),
-        Counted::Are(n) => {
-            print!(rt; "items")?;
-            value(rt, n as u64)?;
-            println!(rt)?;
+        Err(_) => println!(rt; "refused 2"),
+        Ok(n) => {
+            println!(rt; "items {n}")?;
             print_items(rt, bytes)
         }
     }

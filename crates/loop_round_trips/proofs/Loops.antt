@@ -17,7 +17,6 @@ use Rattle.descriptor.specs.Views.{descriptor_views}
 use Rattle.descriptor.specs.Private.{read_views}
 use Rattle.descriptor.specs.Full.{full_of}
 use Rattle.descriptor.specs.declared.Descriptor.{Descriptor}
-use Rattle.descriptor.specs.declared.DescriptorRead.{DescriptorRead}
 use Rattle.descriptor.specs.declared.full.Beside.{Beside}
 use Rattle.descriptor.specs.declared.full.FullDescriptor.{FullDescriptor}
 use Rattle.descriptor.proofs.Insides.{read_inside}
@@ -32,12 +31,13 @@ use Rattle.descriptor_round_trips.proofs.FullTrips.{full_descriptor_read_write}
 use Rattle.descriptor_loop.specs.Cover.{joined}
 use Rattle.descriptor_loop.specs.Items.{item_at, step_of, reading_of, Listed, listed, items_of}
 use Rattle.descriptor_loop.specs.Place.{moved_descriptor}
-use Rattle.descriptor_loop.specs.declared.Item.{Item}
-use Rattle.descriptor_loop.specs.declared.Item.TheVariants.{Is}
 use Rattle.descriptor_loop.specs.declared.reading.Reading.{Reading}
 use Rattle.loop_round_trips.specs.Loops.{WrittenAgain, given_made}
 use Rattle.loop_round_trips.proofs.Pieces.{Canonical, cut_canonical, At, Items, end, item, run_is, items_cut}
 use Rattle.loop_round_trips.proofs.Places.{moved_values, moved_count, moved_view, moved_bytes}
+use Rattle.std.proofs.Common.{Ok, Some, Option, Result}
+use Rattle.upid.specs.declared.Refusal.{Refusal}
+use Rattle.descriptor_loop.specs.declared.ItemRefusal.{ItemRefusal}
 
 -- ---- the bytes of the pieces
 
@@ -71,12 +71,12 @@ module _ (loop : List ℕ) (offset : ℕ) (t : List ℕ) (a : At loop offset t) 
   -- the piece is what is written of the item
   pub record Back : Type 0 where
     pub read : Descriptor
-    pub is : (step_of loop offset).item ≡ Is read
+    pub is : (step_of loop offset).item ≡ Some (Ok read)
     pub writes : descriptor_made read (step_of loop offset).identifier (reading_of loop offset).beside loop ≡ made t
     pub places : count_beside read ≤ length (reading_of loop offset).beside.components
     -- the piece alone is read as the same, with its view counted from its payload's first byte
     pub own : Descriptor
-    pub alone : (full_in t).read ≡ DescriptorRead.Is own
+    pub alone : (full_in t).read ≡ Ok own
     pub moves : read ≡ moved_descriptor (offset + 6) own
     pub view : SameView (drop 6 t) (view_in own) loop (view_in (moved_descriptor (offset + 6) own))
 
@@ -112,7 +112,7 @@ module _ (loop : List ℕ) (offset : ℕ) (t : List ℕ) (a : At loop offset t) 
       let base : ℕ = offset + 6 in
       let there : Descriptor = moved_descriptor base d in
       let views : All (λ (v : View). v.at + v.len ≤ length (drop 6 t)) (descriptor_views d) =
-      subst (λ (x : DescriptorRead). All (λ (v : View). v.at + v.len ≤ length (drop 6 t)) (read_views x)) r.reading (read_inside (get_or t 0 0) (take 4 (drop 2 t)) (drop 6 t)) in
+      subst (λ (x : Result Descriptor Refusal). All (λ (v : View). v.at + v.len ≤ length (drop 6 t)) (read_views x)) r.reading (read_inside (get_or t 0 0) (take 4 (drop 2 t)) (drop 6 t)) in
       let inside = subst (λ (p : List ℕ). All (λ (v : View). v.at + v.len ≤ length p) (descriptor_views d)) (sym a.payload) views in
       let moves : bytes_of_views loop (descriptor_views there) ≡ bytes_of_views (drop 6 t) (descriptor_views d) =
       moved_bytes loop base (length t - 6) a.there d inside ∙ ap (λ (p : List ℕ). bytes_of_views p (descriptor_views d)) a.payload in
@@ -145,13 +145,13 @@ module _ (loop : List ℕ) (fits : length loop ≤ 4076) where
 
 -- ---- loops with the same items
 
-one_read : (x y : Descriptor) (i : Item) → i ≡ Is x → i ≡ Is y → x ≡ y
+one_read : (x y : Descriptor) (i : Option (Result Descriptor ItemRefusal)) → i ≡ Some (Ok x) → i ≡ Some (Ok y) → x ≡ y
 one_read x y i e f =
-    let z : Is x ≡ Is y = sym e ∙ f in
+    let z : Some (Ok x) ≡ Some (Ok y) = sym e ∙ f in
     cc
 
 -- the piece is what is written of the descriptor that the item is
-named : (loop : List ℕ) (offset : ℕ) (t : List ℕ) → At loop offset t → AllBytes t → (d : Descriptor) → (step_of loop offset).item ≡ Is d
+named : (loop : List ℕ) (offset : ℕ) (t : List ℕ) → At loop offset t → AllBytes t → (d : Descriptor) → (step_of loop offset).item ≡ Some (Ok d)
     → (descriptor_made d (step_of loop offset).identifier (reading_of loop offset).beside loop ≡ made t) × (count_beside d ≤ length (reading_of loop offset).beside.components)
 named loop o t a h d e =
     let b = back_at loop o t a h in

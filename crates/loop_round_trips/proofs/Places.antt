@@ -14,7 +14,6 @@ use Rattle.descriptor.specs.Segmentation.{count_of, front_of}
 use Rattle.descriptor.specs.Views.{without_view, descriptor_views, with_upids}
 use Rattle.descriptor.specs.declared.Descriptor.{Descriptor}
 use Rattle.descriptor.specs.declared.Descriptor.TheVariants.{Avail, Dtmf, Segmentation, Time, Reserved}
-use Rattle.descriptor.specs.declared.DescriptorRead.TheVariants as read
 use Rattle.descriptor.specs.declared.segmentation.DescriptorDetail.{DescriptorDetail}
 use Rattle.descriptor.specs.declared.segmentation.DescriptorDetail.TheVariants.{Cancel, Active}
 use Rattle.descriptor.specs.declared.segmentation.SegmentationUpid.{SegmentationUpid}
@@ -27,6 +26,7 @@ use Rattle.descriptor_loop.specs.Place.{moved_upid, moved_descriptor}
 use Rattle.descriptor_loop.proofs.Places.{item_views}
 use Rattle.descriptor_loop.specs.Private.{moved_detail}
 use Rattle.table.proofs.Lists.{run_of_run}
+use Rattle.std.proofs.Common.{Ok}
 
 -- ---- values and counts
 
@@ -98,4 +98,4 @@ module _ (loop : List ℕ) (base n : ℕ) (there : base + n ≤ length loop) whe
 
   pub moved_bytes : (d : Descriptor) → All (λ (v : View). v.at + v.len ≤ length payload) (descriptor_views d)
       → bytes_of_views loop (descriptor_views (moved_descriptor base d)) ≡ bytes_of_views payload (descriptor_views d)
-  moved_bytes d h = ap (bytes_of_views loop) (item_views base (read.Is d)) ∙ views_there h
+  moved_bytes d h = ap (bytes_of_views loop) (item_views base (Ok d)) ∙ views_there h

@@ -1,5 +1,4 @@
--- The numbers that are named or refused: a name's number gives it, a number over the names is refused with 12, and an answer is fixed by
--- what it says in 01's terms.
+-- The numbers that are named or refused: a name's number gives it, a number over the names is refused with 12.
 use Prim.Native.Nat.{ℕ, zero, suc, ◌<◌, ◌≤◌}
 use mathlib.Core.Bool.{Bool, true, false, cond as pick}
 use mathlib.Core.List.{List, [], ◌∷◌}
@@ -9,11 +8,8 @@ use native.Mathlib.Omega.{arith}
 use lib.Dec.{eqb}
 use borrow.Author.Tests.{eqb-true}
 use Rattle.names.specs.declared.flags.NetworkIndicator.{NetworkIndicator}
-use Rattle.names.specs.declared.flags.NetworkRead.{NetworkRead}
 use Rattle.names.specs.declared.flags.ReturnMode.{ReturnMode}
-use Rattle.names.specs.declared.flags.ReturnRead.{ReturnRead}
 use Rattle.names.specs.declared.flags.DeviceRestrictions.{DeviceRestrictions}
-use Rattle.names.specs.declared.flags.RestrictionsRead.{RestrictionsRead}
 use Rattle.names.specs.Numbering.{name_of}
 use Rattle.names.specs.Flags.{
   Answer,
@@ -23,15 +19,12 @@ use Rattle.names.specs.Flags.{
   network_flag,
   networks,
   network_of,
-  network_answer,
   return_flag,
   return_modes,
   return_of,
-  return_answer,
   restrictions_bits,
   restrictions,
   restrictions_of,
-  restrictions_answer,
 }
 use Rattle.names.proofs.Laws.{unnamed}
 
@@ -120,22 +113,3 @@ restrictions_laws =
           (sym
           (unnamed restrictions_bits n restrictions ((((tt, λ e. omega arith), λ e. omega arith), λ e. omega arith), λ e. omega arith)));
     }
-
--- two answers that say the same are the same
-pub same_network : (r s : NetworkRead) → network_answer r ≡ network_answer s → r ≡ s
-same_network (NetworkRead.Is x) (NetworkRead.Is y) e = cc
-same_network (NetworkRead.Is x) NetworkRead.Refused e = cc
-same_network NetworkRead.Refused (NetworkRead.Is y) e = cc
-same_network NetworkRead.Refused NetworkRead.Refused e = refl
-
-pub same_return : (r s : ReturnRead) → return_answer r ≡ return_answer s → r ≡ s
-same_return (ReturnRead.Is x) (ReturnRead.Is y) e = cc
-same_return (ReturnRead.Is x) ReturnRead.Refused e = cc
-same_return ReturnRead.Refused (ReturnRead.Is y) e = cc
-same_return ReturnRead.Refused ReturnRead.Refused e = refl
-
-pub same_restrictions : (r s : RestrictionsRead) → restrictions_answer r ≡ restrictions_answer s → r ≡ s
-same_restrictions (RestrictionsRead.Is x) (RestrictionsRead.Is y) e = cc
-same_restrictions (RestrictionsRead.Is x) RestrictionsRead.Refused e = cc
-same_restrictions RestrictionsRead.Refused (RestrictionsRead.Is y) e = cc
-same_restrictions RestrictionsRead.Refused RestrictionsRead.Refused e = refl

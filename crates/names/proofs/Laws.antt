@@ -1,5 +1,5 @@
 -- Laws of every table, each proved once.
-use Prim.Native.Nat.{ℕ, zero, suc, ◌+◌, ◌<◌, ◌≤◌}
+use Prim.Native.Nat.{ℕ}
 use mathlib.Core.Bool.{Bool, true, false, ◌&&◌, cond as pick}
 use mathlib.Core.List.{List, [], ◌∷◌}
 use mathlib.Core.Logic.{◌⊎◌, ⊎_elim}
@@ -7,9 +7,7 @@ use mathlib.Core.Option.{none, some}
 use mathlib.Core.Path.{◌≡◌, refl, ap, sym, ◌∙◌}
 use native.Mathlib.Omega.{arith}
 use lib.Dec.{eqb}
-use lib.ListN.{length}
 use borrow.Author.Tests.{eqb-true, eq-eqb, ne_eqb}
-use types.Run.{OneOf}
 use Rattle.names.specs.Numbering.{Numbering, number_in, class_in, named, name_of, or, value_of, writable}
 
 and_left : (a b : Bool) → (a && b) ≡ true → a ≡ true
@@ -36,19 +34,6 @@ module _ {A : Type 0} (number : A → ℕ) (n : ℕ) where
   pub unnamed : (xs : List A) → Missed (Unit {0}) xs → none ≡ name_of number xs n
   unnamed xs m = sym (missed (Unit {0}) xs m).1
 
-pub other : {A : Type 0} (T : Numbering A) (n : ℕ) → Missed (number_in T) n (Unit {0}) T.names → T.others n ≡ value_of T n
-other T n m = ap (λ o. or o (T.others n)) (unnamed (number_in T) n T.names m)
-
--- ---- an arm of the first k variants
-abbrev pub upto : ℕ → ℕ → List ℕ
-upto i zero = []
-upto i (suc k) = i ∷ upto (suc i) k
-
-under : (i k n : ℕ) → OneOf (upto i k) n → n < i + k
-under i zero n o = absurd o
-under i (suc zero) n o = omega arith
-under i (suc (suc k)) n o = ⊎_elim (λ e. omega arith) (λ r. omega (arith, under (suc i) (suc k) n r)) o
-
 -- ---- what an enum owes
 -- a name: its own number stands for it
 abbrev pub Name : {A : Type 0} → Numbering A → A → Type 0
@@ -62,11 +47,10 @@ abbrev pub all_named : {A : Type 0} → (A → ℕ) → List A → Bool
 all_named class [] = true
 all_named class (x ∷ xs) = eqb (class x) named && all_named class xs
 
--- `tag` counts the variants in the order of the declaration, the names first
-pub record Sound {A : Type 0} (T : Numbering A) (tag : A → ℕ) : Type 0 where
+pub record Sound {A : Type 0} (T : Numbering A) : Type 0 where
   pub carries : (n : ℕ) → number_in T (T.others n) ≡ n
   pub listed : all_named (class_in T) T.names ≡ true
-  pub split : (x : A) → Name T x ⊎ (Carried T x × (length T.names ≤ tag x))
+  pub split : (x : A) → Name T x ⊎ Carried T x
 
 -- ---- what every enum then has
 pub record Inverse {A : Type 0} (number : A → ℕ) (value : ℕ → A) (writable : A → Bool) : Type 0 where
@@ -102,12 +86,7 @@ module _ {A : Type 0} (number : A → ℕ) (n : ℕ) (y : A) where
       go true k r = absurd (k (eqb-true (class x) named (and_left (eqb (class x) named) (all_named class xs) t)))
       go false k r = r k
 
--- a value is writable where its number stands for a value of its class
-pub writable_by : {A : Type 0} (T : Numbering A) (x own : A) (k : ℕ) → class_in T own ≡ k → own ≡ value_of T (number_in T x)
-    → eqb k (class_in T x) ≡ writable T x
-writable_by T x own k c e = ap (λ j. eqb j (class_in T x)) (sym c ∙ ap (class_in T) e)
-
-module _ {A : Type 0} (T : Numbering A) (tag : A → ℕ) (s : Sound T tag) where
+module _ {A : Type 0} (T : Numbering A) (s : Sound T) where
   carried_back : (x : A) → Carried T x → writable T x ≡ true → value_of T (number_in T x) ≡ x
   carried_back x c f =
       let n = number_in T x in
@@ -117,13 +96,13 @@ module _ {A : Type 0} (T : Numbering A) (tag : A → ℕ) (s : Sound T tag) wher
       l ∙ c.1 (sym (ap (class_in T) l) ∙ k)
 
   gives_writable : (x : A) → value_of T (number_in T x) ≡ x → writable T x ≡ true
-  gives_writable x e = sym (writable_by T x x (class_in T x) refl (sym e)) ∙ eq-eqb (class_in T x) (class_in T x) refl
+  gives_writable x e = ap (λ y. eqb (class_in T y) (class_in T x)) e ∙ eq-eqb (class_in T x) (class_in T x) refl
 
   number_there : (n : ℕ) → number_in T (value_of T n) ≡ n
   number_there n = found (number_in T) n (T.others n) (s.carries n) T.names
 
   writable_back : (x : A) → writable T x ≡ true → value_of T (number_in T x) ≡ x
-  writable_back x f = ⊎_elim (λ m. m.0) (λ c. carried_back x c.0 f) (s.split x)
+  writable_back x f = ⊎_elim (λ m. m.0) (λ c. carried_back x c f) (s.split x)
 
   pub inverse : Inverse (number_in T) (value_of T) (writable T)
   inverse =
@@ -135,16 +114,3 @@ module _ {A : Type 0} (T : Numbering A) (tag : A → ℕ) (s : Sound T tag) wher
         one_value = λ x y f g e. sym (writable_back x f) ∙ ap (value_of T) e ∙ writable_back y g;
         one_number = λ m n e. sym (number_there m) ∙ ap (number_in T) e ∙ number_there n;
       }
-
-  -- the names are the first variants
-  is_name : (x : A) → OneOf (upto 0 (length T.names)) (tag x) → Name T x
-  is_name x o = ⊎_elim (λ m. m) (λ c. absurd (omega (arith, under 0 (length T.names) (tag x) o, c.1))) (s.split x)
-
-  -- `match` on a value finds a name: it is writable
-  pub name_writable : (x : A) → OneOf (upto 0 (length T.names)) (tag x) → true ≡ writable T x
-  name_writable x o = sym (gives_writable x (is_name x o).0)
-
-  -- `match` on what its number stands for finds a name
-  pub own_name : (x own : A) → own ≡ value_of T (number_in T x) → OneOf (upto 0 (length T.names)) (tag own)
-      → eqb named (class_in T x) ≡ writable T x
-  own_name x own e o = writable_by T x own named (is_name own o).1 e

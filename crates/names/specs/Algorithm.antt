@@ -1,5 +1,5 @@
 -- encryption_algorithm, six bits of the splice header. 000: `EncryptionAlgorithm`.
-use Rattle.std.specs.Prelude.{ℕ, Bool, cond as pick, [], ◌∷◌, ltb}
+use Rattle.std.specs.Prelude.{◌≡◌, ℕ, Bool, cond as pick, [], ◌∷◌, ltb}
 use Rattle.names.specs.declared.algorithm.EncryptionAlgorithm.{EncryptionAlgorithm}
 use Rattle.names.specs.declared.algorithm.EncryptionAlgorithm.TheVariants.{
   None,
@@ -37,6 +37,10 @@ algorithms = record {
 -- the value that a number stands for
 unfoldable pub algorithm_of : ℕ → EncryptionAlgorithm
 algorithm_of n = value_of algorithms n
+
+pub algorithm_is : (n : ℕ) (x : EncryptionAlgorithm) → x ≡ algorithm_of n → x ≡ value_of algorithms n
+unfolding algorithm_of
+algorithm_is n x e = e
 
 -- whether a value is what its own number stands for
 unfoldable pub writable_algorithm : EncryptionAlgorithm → Bool

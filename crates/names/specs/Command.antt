@@ -1,5 +1,5 @@
 -- splice_command_type, the last byte of the splice header. 000: `SpliceCommandType`.
-use Rattle.std.specs.Prelude.{ℕ, Bool, [], ◌∷◌}
+use Rattle.std.specs.Prelude.{◌≡◌, ℕ, Bool, [], ◌∷◌}
 use Rattle.names.specs.declared.command.SpliceCommandType.{SpliceCommandType}
 use Rattle.names.specs.declared.command.SpliceCommandType.TheVariants.{
   SpliceNull,
@@ -35,6 +35,10 @@ commands = record {
 -- the value that a number stands for
 unfoldable pub command_type_of : ℕ → SpliceCommandType
 command_type_of n = value_of commands n
+
+pub command_is : (n : ℕ) (x : SpliceCommandType) → x ≡ command_type_of n → x ≡ value_of commands n
+unfolding command_type_of
+command_is n x e = e
 
 -- whether a value is what its own number stands for
 unfoldable pub writable_command : SpliceCommandType → Bool

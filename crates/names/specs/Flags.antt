@@ -1,12 +1,10 @@
 -- The numbers of which each has a name or is refused. 000: `NetworkIndicator`, `ReturnMode`, `DeviceRestrictions`.
-use Rattle.std.specs.Prelude.{ℕ, List, [], ◌∷◌}
+use Rattle.std.specs.Prelude.{◌≡◌, ℕ, List, [], ◌∷◌, Result, Ok, Err}
 use Rattle.std.proofs.Math.Option.{Option, none, some}
 use Rattle.names.specs.declared.flags.NetworkIndicator.{NetworkIndicator}
-use Rattle.names.specs.declared.flags.NetworkRead.{NetworkRead}
 use Rattle.names.specs.declared.flags.ReturnMode.{ReturnMode}
-use Rattle.names.specs.declared.flags.ReturnRead.{ReturnRead}
 use Rattle.names.specs.declared.flags.DeviceRestrictions.{DeviceRestrictions}
-use Rattle.names.specs.declared.flags.RestrictionsRead.{RestrictionsRead}
+use Rattle.names.specs.declared.flags.UnknownNumber.{UnknownNumber}
 use Rattle.names.specs.Numbering.{name_of}
 
 -- An answer in 01's terms: a value, or a refusal's number with its values.
@@ -19,6 +17,11 @@ abbrev pub or_12 : {A : Type 0} → Option A → Answer A
 or_12 none = refuses 12 []
 or_12 (some x) = gives x
 
+-- an answer in Rattle
+abbrev pub flag_answer : {A : Type 0} → Result A UnknownNumber → Answer A
+flag_answer (Ok x) = gives x
+flag_answer (Err e) = or_12 none
+
 -- out_of_network_indicator
 abbrev pub network_flag : NetworkIndicator → ℕ
 network_flag NetworkIndicator.In = 0
@@ -30,9 +33,9 @@ networks = NetworkIndicator.In ∷ NetworkIndicator.Out ∷ []
 unfoldable pub network_of : ℕ → Answer NetworkIndicator
 network_of n = or_12 (name_of network_flag networks n)
 
-abbrev pub network_answer : NetworkRead → Answer NetworkIndicator
-network_answer (NetworkRead.Is x) = gives x
-network_answer NetworkRead.Refused = or_12 none
+pub network_is : (n : ℕ) (r : Result NetworkIndicator UnknownNumber) → flag_answer r ≡ network_of n → flag_answer r ≡ or_12 (name_of network_flag networks n)
+unfolding network_of
+network_is n r e = e
 
 -- auto_return
 abbrev pub return_flag : ReturnMode → ℕ
@@ -45,9 +48,9 @@ return_modes = ReturnMode.Manual ∷ ReturnMode.Automatic ∷ []
 unfoldable pub return_of : ℕ → Answer ReturnMode
 return_of n = or_12 (name_of return_flag return_modes n)
 
-abbrev pub return_answer : ReturnRead → Answer ReturnMode
-return_answer (ReturnRead.Is x) = gives x
-return_answer ReturnRead.Refused = or_12 none
+pub return_is : (n : ℕ) (r : Result ReturnMode UnknownNumber) → flag_answer r ≡ return_of n → flag_answer r ≡ or_12 (name_of return_flag return_modes n)
+unfolding return_of
+return_is n r e = e
 
 -- device_restrictions
 abbrev pub restrictions_bits : DeviceRestrictions → ℕ
@@ -63,6 +66,6 @@ restrictions =
 unfoldable pub restrictions_of : ℕ → Answer DeviceRestrictions
 restrictions_of n = or_12 (name_of restrictions_bits restrictions n)
 
-abbrev pub restrictions_answer : RestrictionsRead → Answer DeviceRestrictions
-restrictions_answer (RestrictionsRead.Is x) = gives x
-restrictions_answer RestrictionsRead.Refused = or_12 none
+pub restrictions_is : (n : ℕ) (r : Result DeviceRestrictions UnknownNumber) → flag_answer r ≡ restrictions_of n → flag_answer r ≡ or_12 (name_of restrictions_bits restrictions n)
+unfolding restrictions_of
+restrictions_is n r e = e

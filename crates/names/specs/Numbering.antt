@@ -1,6 +1,7 @@
 -- Named numbers: what every table of this crate says, and how a number and a value are looked up in it.
 use Rattle.std.specs.Prelude.{ℕ, Bool, cond as pick, List, [], ◌∷◌, eqb}
 use Rattle.std.proofs.Math.Option.{Option, none, some}
+use Rattle.names.specs.declared.numbering.NumberClass.{NumberClass}
 
 -- A value is a name, or it carries a number that has no name and is reserved or private.
 abbrev pub Class : Type 0
@@ -14,6 +15,12 @@ reserved = 1
 
 abbrev pub private : Class
 private = 2
+
+-- as it is in Rattle
+abbrev pub class_number : NumberClass → Class
+class_number NumberClass.Named = named
+class_number NumberClass.Reserved = reserved
+class_number NumberClass.Private = private
 
 -- what a table says of a value: its number and its class
 abbrev pub Entry : Type 0

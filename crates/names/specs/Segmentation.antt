@@ -1,5 +1,5 @@
 -- segmentation_type_id, what a segmentation descriptor marks. 000: `SegmentationTypeId`.
-use Rattle.std.specs.Prelude.{ℕ, Bool, [], ◌∷◌}
+use Rattle.std.specs.Prelude.{◌≡◌, ℕ, Bool, [], ◌∷◌}
 use Rattle.names.specs.declared.segmentation.SegmentationTypeId.{SegmentationTypeId}
 use Rattle.names.specs.declared.segmentation.SegmentationTypeId.TheVariants.{
   NotIndicated,
@@ -84,6 +84,10 @@ segmentations = record {
 -- the value that a number stands for
 unfoldable pub segmentation_type_of : ℕ → SegmentationTypeId
 segmentation_type_of n = value_of segmentations n
+
+pub segmentation_is : (n : ℕ) (x : SegmentationTypeId) → x ≡ segmentation_type_of n → x ≡ value_of segmentations n
+unfolding segmentation_type_of
+segmentation_is n x e = e
 
 -- whether a value is what its own number stands for
 unfoldable pub writable_segmentation : SegmentationTypeId → Bool

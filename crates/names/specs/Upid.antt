@@ -1,5 +1,5 @@
 -- segmentation_upid_type, which says what kind of identifier a UPID is. 000: `SegmentationUpidType`.
-use Rattle.std.specs.Prelude.{ℕ, Bool, [], ◌∷◌}
+use Rattle.std.specs.Prelude.{◌≡◌, ℕ, Bool, [], ◌∷◌}
 use Rattle.names.specs.declared.upid.SegmentationUpidType.{SegmentationUpidType}
 use Rattle.names.specs.declared.upid.SegmentationUpidType.TheVariants.{
   NotUsed,
@@ -56,6 +56,10 @@ upid_types = record {
 -- the value that a number stands for
 unfoldable pub upid_type_of : ℕ → SegmentationUpidType
 upid_type_of n = value_of upid_types n
+
+pub upid_type_is : (n : ℕ) (x : SegmentationUpidType) → x ≡ upid_type_of n → x ≡ value_of upid_types n
+unfolding upid_type_of
+upid_type_is n x e = e
 
 -- whether a value is what its own number stands for
 unfoldable pub writable_upid_type : SegmentationUpidType → Bool

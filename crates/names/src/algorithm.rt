@@ -1,6 +1,8 @@
 // encryption_algorithm, six bits of the splice header.
 ghost use Rattle.std.specs.Prelude.{◌≡◌};
-ghost use Rattle.names.specs.Algorithm.{algorithm_of, algorithm_number, writable_algorithm};
+ghost use Rattle.names.specs.Algorithm.{algorithm_of, algorithm_number, algorithms, algorithm_is};
+
+use crate::numbering::{NumberClass, Numbered};
 
 #[derive(Clone, Copy)]
 pub enum EncryptionAlgorithm {
@@ -12,11 +14,12 @@ pub enum EncryptionAlgorithm {
     Private(u8),
 }
 
-impl EncryptionAlgorithm {
-    // The value that a number stands for.
-    pub fn from_id(id: u8) -> EncryptionAlgorithm
-        ensures { result ≡ algorithm_of id }
-    {
+// The value that a number stands for.
+impl From<u8> for EncryptionAlgorithm {
+    ghost from_gives = { λ id x. x ≡ algorithm_of id };
+
+    #[tactic(auto, unfolding(crate::specs::Algorithm::algorithm_of))]
+    fn from(id: u8) -> EncryptionAlgorithm {
         match id {
             0 => EncryptionAlgorithm::None,
             1 => EncryptionAlgorithm::DesEcb,
@@ -26,12 +29,14 @@ impl EncryptionAlgorithm {
             32..=255 => EncryptionAlgorithm::Private(id),
         }
     }
+}
 
-    // The number of a value.
-    pub fn id(self) -> u8
-        ensures { result ≡ algorithm_number self }
-    {
-        match self {
+// The number of a value.
+impl From<EncryptionAlgorithm> for u8 {
+    ghost from_gives = { λ x id. id ≡ algorithm_number x };
+
+    fn from(x: EncryptionAlgorithm) -> u8 {
+        match x {
             EncryptionAlgorithm::None => 0,
             EncryptionAlgorithm::DesEcb => 1,
             EncryptionAlgorithm::DesCbc => 2,
@@ -40,29 +45,20 @@ impl EncryptionAlgorithm {
             EncryptionAlgorithm::Private(n) => n,
         }
     }
+}
 
-    // Is it the value that its own number stands for? A name is.
-    pub fn writable(self) -> bool
-        ensures { result ≡ writable_algorithm self }
-    {
+impl Numbered for EncryptionAlgorithm {
+    ghost table = { algorithms };
+
+    ghost from_is = { algorithm_is };
+
+    ghost into_is = { λ _ _ e. e };
+
+    fn class(self) -> NumberClass {
         match self {
-            EncryptionAlgorithm::Reserved(n) => {
-                let own = EncryptionAlgorithm::from_id(n);
-                match own {
-                    EncryptionAlgorithm::Reserved(_) => true,
-                    EncryptionAlgorithm::Private(_) => false,
-                    _ => false,
-                }
-            }
-            EncryptionAlgorithm::Private(n) => {
-                let own = EncryptionAlgorithm::from_id(n);
-                match own {
-                    EncryptionAlgorithm::Private(_) => true,
-                    EncryptionAlgorithm::Reserved(_) => false,
-                    _ => false,
-                }
-            }
-            _ => true,
+            EncryptionAlgorithm::Reserved(_) => NumberClass::Reserved,
+            EncryptionAlgorithm::Private(_) => NumberClass::Private,
+            _ => NumberClass::Named,
         }
     }
 }

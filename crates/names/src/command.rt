@@ -1,6 +1,8 @@
 // splice_command_type, the last byte of the splice header.
 ghost use Rattle.std.specs.Prelude.{◌≡◌};
-ghost use Rattle.names.specs.Command.{command_type_of, command_number, writable_command};
+ghost use Rattle.names.specs.Command.{command_type_of, command_number, commands, command_is};
+
+use crate::numbering::{NumberClass, Numbered};
 
 #[derive(Clone, Copy)]
 pub enum SpliceCommandType {
@@ -13,11 +15,12 @@ pub enum SpliceCommandType {
     Reserved(u8),
 }
 
-impl SpliceCommandType {
-    // The value that a number stands for.
-    pub fn from_id(id: u8) -> SpliceCommandType
-        ensures { result ≡ command_type_of id }
-    {
+// The value that a number stands for.
+impl From<u8> for SpliceCommandType {
+    ghost from_gives = { λ id x. x ≡ command_type_of id };
+
+    #[tactic(auto, unfolding(crate::specs::Command::command_type_of))]
+    fn from(id: u8) -> SpliceCommandType {
         match id {
             0x00 => SpliceCommandType::SpliceNull,
             0x01..=0x03 => SpliceCommandType::Reserved(id),
@@ -29,12 +32,14 @@ impl SpliceCommandType {
             0xff => SpliceCommandType::PrivateCommand,
         }
     }
+}
 
-    // The number of a value.
-    pub fn id(self) -> u8
-        ensures { result ≡ command_number self }
-    {
-        match self {
+// The number of a value.
+impl From<SpliceCommandType> for u8 {
+    ghost from_gives = { λ x id. id ≡ command_number x };
+
+    fn from(x: SpliceCommandType) -> u8 {
+        match x {
             SpliceCommandType::SpliceNull => 0x00,
             SpliceCommandType::SpliceSchedule => 0x04,
             SpliceCommandType::SpliceInsert => 0x05,
@@ -44,20 +49,19 @@ impl SpliceCommandType {
             SpliceCommandType::Reserved(n) => n,
         }
     }
+}
 
-    // Is it the value that its own number stands for? A name is.
-    pub fn writable(self) -> bool
-        ensures { result ≡ writable_command self }
-    {
+impl Numbered for SpliceCommandType {
+    ghost table = { commands };
+
+    ghost from_is = { command_is };
+
+    ghost into_is = { λ _ _ e. e };
+
+    fn class(self) -> NumberClass {
         match self {
-            SpliceCommandType::Reserved(n) => {
-                let own = SpliceCommandType::from_id(n);
-                match own {
-                    SpliceCommandType::Reserved(_) => true,
-                    _ => false,
-                }
-            }
-            _ => true,
+            SpliceCommandType::Reserved(_) => NumberClass::Reserved,
+            _ => NumberClass::Named,
         }
     }
 }

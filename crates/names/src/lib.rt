@@ -4,5 +4,6 @@
 pub mod algorithm;
 pub mod command;
 pub mod flags;
+pub mod numbering;
 pub mod segmentation;
 pub mod upid;

@@ -1,6 +1,8 @@
 // segmentation_type_id, what a segmentation descriptor marks.
 ghost use Rattle.std.specs.Prelude.{◌≡◌};
-ghost use Rattle.names.specs.Segmentation.{segmentation_type_of, segmentation_number, writable_segmentation};
+ghost use Rattle.names.specs.Segmentation.{segmentation_type_of, segmentation_number, segmentations, segmentation_is};
+
+use crate::numbering::{NumberClass, Numbered};
 
 #[derive(Clone, Copy)]
 pub enum SegmentationTypeId {
@@ -35,11 +37,12 @@ pub enum SegmentationTypeId {
     Reserved(u8),
 }
 
-impl SegmentationTypeId {
-    // The value that a number stands for.
-    pub fn from_id(id: u8) -> SegmentationTypeId
-        ensures { result ≡ segmentation_type_of id }
-    {
+// The value that a number stands for.
+impl From<u8> for SegmentationTypeId {
+    ghost from_gives = { λ id x. x ≡ segmentation_type_of id };
+
+    #[tactic(auto, unfolding(crate::specs::Segmentation::segmentation_type_of))]
+    fn from(id: u8) -> SegmentationTypeId {
         match id {
             0x00 => SegmentationTypeId::NotIndicated,
             0x01 => SegmentationTypeId::ContentIdentification,
@@ -77,12 +80,14 @@ impl SegmentationTypeId {
             0x52..=0xff => SegmentationTypeId::Reserved(id),
         }
     }
+}
 
-    // The number of a value.
-    pub fn id(self) -> u8
-        ensures { result ≡ segmentation_number self }
-    {
-        match self {
+// The number of a value.
+impl From<SegmentationTypeId> for u8 {
+    ghost from_gives = { λ x id. id ≡ segmentation_number x };
+
+    fn from(x: SegmentationTypeId) -> u8 {
+        match x {
             SegmentationTypeId::NotIndicated => 0x00,
             SegmentationTypeId::ContentIdentification => 0x01,
             SegmentationTypeId::ProgramStart => 0x10,
@@ -114,20 +119,19 @@ impl SegmentationTypeId {
             SegmentationTypeId::Reserved(n) => n,
         }
     }
+}
 
-    // Is it the value that its own number stands for? A name is.
-    pub fn writable(self) -> bool
-        ensures { result ≡ writable_segmentation self }
-    {
+impl Numbered for SegmentationTypeId {
+    ghost table = { segmentations };
+
+    ghost from_is = { segmentation_is };
+
+    ghost into_is = { λ _ _ e. e };
+
+    fn class(self) -> NumberClass {
         match self {
-            SegmentationTypeId::Reserved(n) => {
-                let own = SegmentationTypeId::from_id(n);
-                match own {
-                    SegmentationTypeId::Reserved(_) => true,
-                    _ => false,
-                }
-            }
-            _ => true,
+            SegmentationTypeId::Reserved(_) => NumberClass::Reserved,
+            _ => NumberClass::Named,
         }
     }
 }

@@ -1,6 +1,8 @@
 // segmentation_upid_type, which says what kind of identifier a UPID is.
 ghost use Rattle.std.specs.Prelude.{◌≡◌};
-ghost use Rattle.names.specs.Upid.{upid_type_of, upid_type_number, writable_upid_type};
+ghost use Rattle.names.specs.Upid.{upid_type_of, upid_type_number, upid_types, upid_type_is};
+
+use crate::numbering::{NumberClass, Numbered};
 
 #[derive(Clone, Copy)]
 pub enum SegmentationUpidType {
@@ -23,11 +25,12 @@ pub enum SegmentationUpidType {
     Reserved(u8),
 }
 
-impl SegmentationUpidType {
-    // The value that a number stands for.
-    pub fn from_type(id: u8) -> SegmentationUpidType
-        ensures { result ≡ upid_type_of id }
-    {
+// The value that a number stands for.
+impl From<u8> for SegmentationUpidType {
+    ghost from_gives = { λ id x. x ≡ upid_type_of id };
+
+    #[tactic(auto, unfolding(crate::specs::Upid::upid_type_of))]
+    fn from(id: u8) -> SegmentationUpidType {
         match id {
             0 => SegmentationUpidType::NotUsed,
             1 => SegmentationUpidType::UserDefinedDeprecated,
@@ -48,12 +51,14 @@ impl SegmentationUpidType {
             16..=255 => SegmentationUpidType::Reserved(id),
         }
     }
+}
 
-    // The number of a value.
-    pub fn id(self) -> u8
-        ensures { result ≡ upid_type_number self }
-    {
-        match self {
+// The number of a value.
+impl From<SegmentationUpidType> for u8 {
+    ghost from_gives = { λ x id. id ≡ upid_type_number x };
+
+    fn from(x: SegmentationUpidType) -> u8 {
+        match x {
             SegmentationUpidType::NotUsed => 0,
             SegmentationUpidType::UserDefinedDeprecated => 1,
             SegmentationUpidType::ISCIDeprecated => 2,
@@ -73,20 +78,19 @@ impl SegmentationUpidType {
             SegmentationUpidType::Reserved(n) => n,
         }
     }
+}
 
-    // Is it the value that its own number stands for? A name is.
-    pub fn writable(self) -> bool
-        ensures { result ≡ writable_upid_type self }
-    {
+impl Numbered for SegmentationUpidType {
+    ghost table = { upid_types };
+
+    ghost from_is = { upid_type_is };
+
+    ghost into_is = { λ _ _ e. e };
+
+    fn class(self) -> NumberClass {
         match self {
-            SegmentationUpidType::Reserved(n) => {
-                let own = SegmentationUpidType::from_type(n);
-                match own {
-                    SegmentationUpidType::Reserved(_) => true,
-                    _ => false,
-                }
-            }
-            _ => true,
+            SegmentationUpidType::Reserved(_) => NumberClass::Reserved,
+            _ => NumberClass::Named,
         }
     }
 }

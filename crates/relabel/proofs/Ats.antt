@@ -13,7 +13,6 @@ use lib.ListN.{length, take, drop, get_or, length-append, length-drop, take-appe
 use lib.Seq.{drop-drop, drop-append-le, length-take-le}
 use Rattle.bit_stores.proofs.Writes.{refused_answer, short_answer, wrote_answer}
 use Rattle.bit_stores.specs.Written.{answer_of, later_of}
-use Rattle.bit_stores.specs.declared.Written.{Written}
 use Rattle.relabel_joined.specs.Relabel.{type_then}
 use Rattle.relabel_upid.proofs.Theorems.{the_upid_itself}
 use Rattle.relabel_upid.specs.Relabel.{instead, mended, spliced, part_at, replaced_in, taken, part_made, upid_made, up_to}
@@ -27,6 +26,7 @@ use Rattle.upid.specs.declared.Part.{Part}
 use Rattle.relabel.specs.Private.{run, old_size, Lies, Takes, Limit, up_to_upid, cut_of, sealed, wrapped, placed_made}
 use Rattle.relabel.specs.declared.Place.{Place}
 use Rattle.relabel.proofs.Stores.{size_cut, all_stored}
+use Rattle.std.proofs.Common.{Ok, Err, Result}
 
 -- ---- a UPID that is made is not empty
 
@@ -66,12 +66,12 @@ pub record Answered (m : Made) (t : List ℕ) (n : ℕ) : Type 0 where
   pub fits : length b ≤ length t
   pub later : later_of m t ≡ b ++ drop (length b) t
 
-wrote_is : (m : Made) (t : List ℕ) (n : ℕ) → Written.Wrote n ≡ answer_of m t → Answered m t n
+wrote_is : (m : Made) (t : List ℕ) (n : ℕ) → Ok n ≡ answer_of m t → Answered m t n
 unfolding answer_of later_of
 wrote_is (refused q) t n e = zero_one cc
 wrote_is (made b) t n e = go (leb (length b) (length t)) refl e
   where
-    go : (c : Bool) → leb (length b) (length t) ≡ c → Written.Wrote n ≡ pick c (Written.Wrote (length b)) (Written.Refused 36) → Answered (made b) t n
+    go : (c : Bool) → leb (length b) (length t) ≡ c → Ok n ≡ pick {A = Result ℕ ℕ} c (Ok (length b)) (Err 36) → Answered (made b) t n
     go true h f = record { b = b; is = refl; size = cc; fits = leb-true (length b) (length t) h; later = rw h }
     go false h f = zero_one cc
 
@@ -80,12 +80,12 @@ pub data Denied (m : Made) (t : List ℕ) : ℕ → Type 0 where
   was : {q : ℕ} → m ≡ refused q → Denied m t q
   short : (b : List ℕ) → m ≡ made b → length t < length b → Denied m t 36
 
-denied : (m : Made) (t : List ℕ) (q : ℕ) → Written.Refused q ≡ answer_of m t → (t ≡ later_of m t) × Denied m t q
+denied : (m : Made) (t : List ℕ) (q : ℕ) → Err q ≡ answer_of m t → (t ≡ later_of m t) × Denied m t q
 unfolding answer_of later_of
 denied (refused r) t q e = let z : refused r ≡ refused q = cc in (refl, was {q = q} z)
 denied (made b) t q e = go (leb (length b) (length t)) refl e
   where
-    go : (c : Bool) → leb (length b) (length t) ≡ c → Written.Refused q ≡ pick c (Written.Wrote (length b)) (Written.Refused 36) → (t ≡ pick c (b ++ drop (length b) t) t) × Denied (made b) t q
+    go : (c : Bool) → leb (length b) (length t) ≡ c → Err q ≡ pick c (Ok (length b)) (Err 36) → (t ≡ pick c (b ++ drop (length b) t) t) × Denied (made b) t q
     go true h f = zero_one cc
     go false h f = let z : q ≡ 36 = cc in (refl, rw z (short b refl (leb-false (length b) (length t) h)))
 
@@ -140,8 +140,8 @@ module _ (s : List ℕ) (p : Place) (limit part k : ℕ) (new t : List ℕ) (lie
     size_part : length part_of ≡ room
     size_part = part_size t from room (inside (length t) room from (no_more (length t) (length s - old_size p) room er) below)
 
-    pub refused_at : (later : List ℕ) (q : ℕ) → Written.Refused q ≡ answer_of its part_of → later ≡ later_of its part_of
-        → (Written.Refused q ≡ answer_of all t) × (put_mid from (from + room - from) t later ≡ later_of all t)
+    pub refused_at : (later : List ℕ) (q : ℕ) → Err q ≡ answer_of its part_of → later ≡ later_of its part_of
+        → (Err q ≡ answer_of all t) × (put_mid from (from + room - from) t later ≡ later_of all t)
     refused_at later q e f =
         let d = denied its part_of q e in
         let same : put_mid from (from + room - from) t later ≡ t =
@@ -149,7 +149,7 @@ module _ (s : List ℕ) (p : Place) (limit part k : ℕ) (new t : List ℕ) (lie
         let a = go d.1 in
         (a.0, same ∙ a.1)
       where
-        go : {q : ℕ} → Denied its part_of q → (Written.Refused q ≡ answer_of all t) × (t ≡ later_of all t)
+        go : {q : ℕ} → Denied its part_of q → (Err q ≡ answer_of all t) × (t ≡ later_of all t)
         go {q} (was z) = refused_answer all t q (all_is ∙ ap (wrapped s p (type_then part upid_type_number k)) z)
         go (short b z l) =
             short_answer all t (cut_of s p (type_then part upid_type_number k) b) (all_is ∙ ap (wrapped s p (type_then part upid_type_number k)) z)
@@ -166,7 +166,7 @@ module _ (s : List ℕ) (p : Place) (limit part k : ℕ) (new t : List ℕ) (lie
       pub leaves : length s - old_size p + n ≤ length (put_mid from (from + room - from) t later)
       pub small : length s - old_size p + n < 2 ^ 64
 
-    pub wrote_at : (later : List ℕ) (n : ℕ) → Written.Wrote n ≡ answer_of its part_of → later ≡ later_of its part_of → Stored n later
+    pub wrote_at : (later : List ℕ) (n : ℕ) → Ok n ≡ answer_of its part_of → later ≡ later_of its part_of → Stored n later
     wrote_at later n e f =
         let w = wrote_is its part_of n e in
         let u = up_to_is limit _ w.b w.is in
@@ -202,10 +202,10 @@ module _ (s : List ℕ) (p : Place) (limit part k : ℕ) (new t : List ℕ) (lie
 
   pub all_wrote : (t₁ later : List ℕ) (n upid_type_number : ℕ) → n ≡ length b → upid_type_number ≡ type_then part (get_or s p.head 0) k → length s - old_size p + length b ≤ length t → t₁ ≡ stored t (p.head + 2) b
       → later ≡ sealed s p n (stored t₁ 0 (up_to_upid s p upid_type_number n))
-      → (Written.Wrote (length s - old_size p + n) ≡ answer_of (placed_made s p limit part k new) t) × (later ≡ later_of (placed_made s p limit part k new) t)
+      → (Ok (length s - old_size p + n) ≡ answer_of (placed_made s p limit part k new) t) × (later ≡ later_of (placed_made s p limit part k new) t)
   all_wrote t₁ later n upid_type_number en ek fits e₁ e =
       let z = size_cut s p (type_then part (get_or s p.head 0) k) b lies in
       let w = wrote_answer _ t result is (subst (λ (m : ℕ). m ≤ length t) (sym z) fits) in
       let f : later ≡ stored t 0 result =
       all_stored s p (type_then part (get_or s p.head 0) k) b lies t t₁ _ later fits e₁ refl (rw (← en, ← ek) e) in
-      (ap Written.Wrote (ap (λ (m : ℕ). length s - old_size p + m) en ∙ sym z) ∙ w.0, f ∙ w.1)
+      (ap Ok (ap (λ (m : ℕ). length s - old_size p + m) en ∙ sym z) ∙ w.0, f ∙ w.1)

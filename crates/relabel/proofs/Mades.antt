@@ -11,11 +11,9 @@ use borrow.Author.Tests.{le-leb, lt-leb, leb-true, leb-false, ne_eqb}
 use lib.Dec.{leb}
 use lib.ListN.{length, get_or, take, drop, length-drop}
 use Rattle.command.specs.Command.{command_of}
-use Rattle.command.specs.declared.CommandRead.{CommandRead}
 use Rattle.command.specs.declared.SpliceCommand.{SpliceCommand}
 use Rattle.header.proofs.Headers.{header_there}
 use Rattle.header.specs.Header.{header_of}
-use Rattle.header.specs.declared.header.HeaderRead.{HeaderRead}
 use Rattle.header.specs.declared.header.SpliceInfoHeader.{SpliceInfoHeader}
 use Rattle.relabel_found.proofs.Actives.{ActiveAt, active_at_lem}
 use Rattle.relabel_found.proofs.Spots.{found_spots, spots_found}
@@ -28,20 +26,20 @@ use Rattle.section.proofs.Acceptance.{number_some}
 use Rattle.section.proofs.Framing.{framed, command_read, is_refused, is_accepted, is_unknown, is_malformed, is_section}
 use Rattle.section.specs.Section.{command_length, command_type, command_bytes, loop_length, loop_bytes, loop_place, frame_in, frame_of, moved, moved_read, accepted, through, section_of, number_of}
 use Rattle.section.specs.declared.Frame.{Frame}
-use Rattle.section.specs.declared.FrameRead.{FrameRead}
 use Rattle.section.specs.declared.Refusal.{Refusal}
 use Rattle.section.specs.declared.Section.{Section}
-use Rattle.section.specs.declared.SectionRead.{SectionRead}
 use Rattle.table.proofs.Lists.{zero_one}
 use Rattle.table.specs.Bits.{pick}
 use Rattle.table.specs.Writing.{Made, made, refused}
 use Rattle.upid.proofs.Laws.{by_cases}
 use Rattle.upid.specs.Upid.{check_of}
-use Rattle.upid.specs.declared.UpidRead.{UpidRead}
 use Rattle.relabel.specs.Relabel.{payload_in, payload_then, section_then, fitting, loop_made, relabel_made}
 use Rattle.relabel.specs.Private.{old_size, Lies, Takes, Limit, Spotted, place_in, wrapped, placed_made}
 use Rattle.relabel.specs.declared.Place.{Place}
 use Rattle.relabel.proofs.Cuts.{own_is, size_is, pay_is, old_is, type_is, upid_is_lem, pay_size, section_size, cut_is, loop_there, loop_byte}
+use Rattle.std.proofs.Common.{Ok, Err, Some, None, Option, Result}
+use Rattle.command.specs.declared.CommandRefusal.{CommandRefusal}
+use Rattle.upid.specs.declared.Refusal as upid_refusal
 
 -- ---- how long the UPID may get
 
@@ -215,50 +213,50 @@ module _ (s : List ℕ) (offset part k : ℕ) (new : List ℕ) where
     unfolding taken
     made_spotted = go (check_of (type_in (payload_in s offset)) (upid_in (payload_in s offset))) refl
       where
-        go : (r : UpidRead) → check_of (type_in (payload_in s offset)) (upid_in (payload_in s offset)) ≡ r → loop_made s offset part k new ≡ placed_made s (place_in s offset) limit part k new
-        go (UpidRead.Fine q) f = made_same (found_spots (loop_bytes s) offset (loop_byte s offset bytes at.room at.short) e q f) at bytes byte limit lim
-        go (UpidRead.Refused r) f =
+        go : (r : Result ℕ upid_refusal.Refusal) → check_of (type_in (payload_in s offset)) (upid_in (payload_in s offset)) ≡ r → loop_made s offset part k new ≡ placed_made s (place_in s offset) limit part k new
+        go (Ok q) f = made_same (found_spots (loop_bytes s) offset (loop_byte s offset bytes at.room at.short) e q f) at bytes byte limit lim
+        go (Err r) f =
             let z = refused_upid (type_in (payload_in s offset)) (upid_in (payload_in s offset)) part k new (ap taken f) in
             no_upid z ∙ sym (placed_none z)
 
 -- ---- by the section's reading
 
 module _ (s : List ℕ) (offset part k : ℕ) (new : List ℕ) where
-  pub section_refused_lem : (r : Refusal) (q : ℕ) → section_of s ≡ SectionRead.Refused r → q ≡ number_of (section_of s) → relabel_made s offset part k new ≡ refused q
+  pub section_refused_lem : (r : Refusal) (q : ℕ) → section_of s ≡ Err r → q ≡ number_of (section_of s) → relabel_made s offset part k new ≡ refused q
   unfolding relabel_made
   section_refused_lem r q e f = rw (← f, ne_eqb q 0 (λ z. number_some r (ap number_of (sym e) ∙ sym f ∙ z)))
 
-  pub section_accepted : (x : Section) → section_of s ≡ SectionRead.Is x → relabel_made s offset part k new ≡ loop_made s offset part k new
+  pub section_accepted : (x : Section) → section_of s ≡ Ok x → relabel_made s offset part k new ≡ loop_made s offset part k new
   unfolding relabel_made number_of
   section_accepted x e = rw e
 
 -- what the frame and the command say
 module _ (s : List ℕ) (offset part k : ℕ) (new : List ℕ) where
-  pub frame_refused : (r : Refusal) (q : ℕ) → FrameRead.Refused r ≡ frame_of s → q ≡ number_of (SectionRead.Refused r) → relabel_made s offset part k new ≡ refused q
+  pub frame_refused : (r : Refusal) (q : ℕ) → Err r ≡ frame_of s → q ≡ number_of (Err r) → relabel_made s offset part k new ≡ refused q
   frame_refused r q e f = let z = is_refused s r e in section_refused_lem s offset part k new r q (sym z) (f ∙ ap number_of z)
 
-  module _ (v : Frame) (e : FrameRead.Is v ≡ frame_of s) where
-    headed : (x : SpliceInfoHeader) × (header_of (drop 3 s) ≡ HeaderRead.Header x)
+  module _ (v : Frame) (e : Ok v ≡ frame_of s) where
+    headed : (x : SpliceInfoHeader) × (header_of (drop 3 s) ≡ Some x)
     headed = header_there (drop 3 s) (omega (arith, length-drop 3 s, (framed s v e).long))
 
-    pub command_unknown : (q : ℕ) → q ≡ 10 → command_read s ≡ CommandRead.UnknownType → relabel_made s offset part k new ≡ refused q
+    pub command_unknown : (q : ℕ) → q ≡ 10 → command_read s ≡ Err CommandRefusal.UnknownType → relabel_made s offset part k new ≡ refused q
     unfolding number_of
     command_unknown q g f =
         let z = is_accepted s v _ e (is_unknown _ headed.0 headed.1 (command_read s) v f) in
         section_refused_lem s offset part k new Refusal.UnknownCommand q (sym z) (g ∙ ap number_of z)
 
-    pub command_malformed : (q : ℕ) → q ≡ 11 → command_read s ≡ CommandRead.Malformed → relabel_made s offset part k new ≡ refused q
+    pub command_malformed : (q : ℕ) → q ≡ 11 → command_read s ≡ Err CommandRefusal.Malformed → relabel_made s offset part k new ≡ refused q
     unfolding number_of
     command_malformed q g f =
         let z = is_accepted s v _ e (is_malformed _ headed.0 headed.1 (command_read s) v f) in
         section_refused_lem s offset part k new Refusal.MalformedCommand q (sym z) (g ∙ ap number_of z)
 
-    pub command_is_lem : (c : SpliceCommand) → command_read s ≡ CommandRead.Is c → relabel_made s offset part k new ≡ loop_made s offset part k new
+    pub command_is_lem : (c : SpliceCommand) → command_read s ≡ Ok c → relabel_made s offset part k new ≡ loop_made s offset part k new
     command_is_lem c f =
         let z = is_accepted s v _ e (is_section _ headed.0 headed.1 (command_read s) v c (moved 14 c) v f refl refl) in
         section_accepted s offset part k new _ (sym z)
 
-pub frame_len : (s : List ℕ) (v : Frame) → FrameRead.Is v ≡ frame_of s → v.descriptors.len ≡ loop_length s
+pub frame_len : (s : List ℕ) (v : Frame) → Ok v ≡ frame_of s → v.descriptors.len ≡ loop_length s
 unfolding frame_in loop_place
 frame_len s v e = ap (λ (u : Frame). u.descriptors.len) (framed s v e).place
 
@@ -268,23 +266,23 @@ pub record Framing (s : List ℕ) (x : Section) : Type 0 where
   pub fits : 20 + command_length s + loop_length s ≤ length s
   pub short : length s ≤ 4096
 
-descriptors_of : (h : HeaderRead) (r : CommandRead) (f : Frame) (x : Section) → accepted h r f ≡ SectionRead.Is x → x.descriptors ≡ f.descriptors
+descriptors_of : (h : Option SpliceInfoHeader) (r : Result SpliceCommand CommandRefusal) (f : Frame) (x : Section) → accepted h r f ≡ Ok x → x.descriptors ≡ f.descriptors
 unfolding accepted
-descriptors_of (HeaderRead.Header h) (CommandRead.Is c) f x e =
+descriptors_of (Some h) (Ok c) f x e =
     let z : ◌≡◌ {A = Section} (record { header = h; command = c; descriptors = f.descriptors; payload = f.command }) x = cc in
     sym (ap (λ (y : Section). y.descriptors) z)
-descriptors_of (HeaderRead.Header h) CommandRead.UnknownType f x e = zero_one cc
-descriptors_of (HeaderRead.Header h) CommandRead.Malformed f x e = zero_one cc
-descriptors_of HeaderRead.NoHeader r f x e = zero_one cc
+descriptors_of (Some h) (Err CommandRefusal.UnknownType) f x e = zero_one cc
+descriptors_of (Some h) (Err CommandRefusal.Malformed) f x e = zero_one cc
+descriptors_of None r f x e = zero_one cc
 
-pub framing : (s : List ℕ) (x : Section) → section_of s ≡ SectionRead.Is x → Framing s x
+pub framing : (s : List ℕ) (x : Section) → section_of s ≡ Ok x → Framing s x
 unfolding section_of frame_in loop_place
 framing s x e = go (frame_of s) refl e
   where
-    go : (f : FrameRead) → frame_of s ≡ f → through f (header_of (drop 3 s)) (moved_read (command_of (command_type s) (command_bytes s))) ≡ SectionRead.Is x → Framing s x
-    go (FrameRead.Is f) ef h =
+    go : (f : Result Frame Refusal) → frame_of s ≡ f → through f (header_of (drop 3 s)) (moved_read (command_of (command_type s) (command_bytes s))) ≡ Ok x → Framing s x
+    go (Ok f) ef h =
         let d = descriptors_of _ _ f x h in
         let w = framed s f (sym ef) in
         let g : x.descriptors ≡ (frame_in s).descriptors = d ∙ ap (λ (u : Frame). u.descriptors) w.place in
         record { at = ap (λ (v : _). v.at) g; len = ap (λ (v : _). v.len) g; fits = w.fits; short = w.short }
-    go (FrameRead.Refused r) ef h = zero_one cc
+    go (Err r) ef h = zero_one cc

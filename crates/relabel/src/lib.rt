@@ -11,13 +11,12 @@ ghost use Rattle.relabel.specs.Relabel.{loop_made, relabel_made};
 ghost use Rattle.section.specs.Section.{command_length, loop_length};
 ghost use Rattle.relabel.specs.Private.{Spotted, place_in, Lies, Takes, Limit, old_size, up_to_upid, sealed, placed_made};
 
-use bit_stores::Written;
-use command::{CommandRead, read_command};
+use command::{CommandRefusal, number, read_command};
 use crc::crc32;
 use descriptor_loop::MAX_DESCRIPTOR;
 use relabel_found::{spots_active, upid_head};
 use relabel_upid::relabel_upid;
-use section::{COMMAND_AT, COMMAND_TYPE_AT, FrameRead, MAX_SECTION, read_frame};
+use section::{COMMAND_AT, COMMAND_TYPE_AT, MAX_SECTION, read_frame};
 use table::numbers::size;
 use table::store::{put_bytes, put_number};
 
@@ -126,7 +125,7 @@ fn relabel_at(
     new_type: u8,
     new: &[u8],
     target: &mut [u8],
-) -> Written
+) -> Result<usize, u8>
     requires { Lies section.now p × Limit section.now p limit }
     ensures answer { result ≡ answer_of (placed_made section.now p limit part new_type new.now) target.old }
     ensures bytes { target.new ≡ later_of (placed_made section.now p limit part new_type new.now) target.old }
@@ -148,12 +147,9 @@ fn relabel_at(
         limit,
         &mut target[from..to],
     );
-    let n = match made {
-        Written::Wrote(n) => n,
-        Written::Refused(r) => return Written::Refused(r),
-    };
+    let n = made?;
     store_around(section, p, type_then(part, upid_type, new_type), n, target);
-    Written::Wrote(others + n)
+    Ok(others + n)
 }
 
 // How many bytes the UPID at a place may have: the item's length is at most 254, and the section's 4,096.
@@ -199,14 +195,14 @@ fn relabel_in(
     upid_type: u8,
     new: &[u8],
     target: &mut [u8],
-) -> Written
+) -> Result<usize, u8>
     requires { (list ≡ 16 + command_length section.now) × (len ≡ loop_length section.now) × (20 + command_length section.now + loop_length section.now ≤ length section.now) × (length section.now ≤ 4096) }
     ensures answer { result ≡ answer_of (loop_made section.now offset part upid_type new.now) target.old }
     ensures bytes { target.new ≡ later_of (loop_made section.now offset part upid_type new.now) target.old }
 {
     let end = list + len;
     if !spots_active(&section[list..end], offset) {
-        return Written::Refused(41);
+        return Err(41);
     }
     let p = place_of(section, list, len, offset);
     let limit = limit_of(section, p);
@@ -223,20 +219,20 @@ pub fn relabel(
     upid_type: u8,
     new: &[u8],
     target: &mut [u8],
-) -> Written
+) -> Result<usize, u8>
     ensures answer { result ≡ answer_of (relabel_made section.now offset part upid_type new.now) target.old }
     ensures bytes { target.new ≡ later_of (relabel_made section.now offset part upid_type new.now) target.old }
 {
     let frame = match read_frame(section) {
-        FrameRead::Is(f) => f,
-        FrameRead::Refused(r) => return Written::Refused(r.number()),
+        Ok(f) => f,
+        Err(r) => return Err(r.number()),
     };
     let payload = frame.command;
     let end = COMMAND_AT + payload.len;
     match read_command(section[COMMAND_TYPE_AT], &section[COMMAND_AT..end]) {
-        CommandRead::Is(_) => {}
-        CommandRead::UnknownType => return Written::Refused(CommandRead::UnknownType.number()),
-        CommandRead::Malformed => return Written::Refused(CommandRead::Malformed.number()),
+        Ok(_) => {}
+        Err(CommandRefusal::UnknownType) => return Err(number(Err(CommandRefusal::UnknownType))),
+        Err(CommandRefusal::Malformed) => return Err(number(Err(CommandRefusal::Malformed))),
     }
     let place = frame.descriptors;
     relabel_in(

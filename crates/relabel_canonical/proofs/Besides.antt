@@ -11,8 +11,6 @@ use Rattle.descriptor.specs.declared.Descriptor.TheVariants.{Avail, Dtmf, Segmen
 use Rattle.descriptor.specs.declared.full.Beside.{Beside}
 use Rattle.descriptor_loop.proofs.Lists.{Walked, stop, step, walked}
 use Rattle.descriptor_loop.specs.Items.{step_of, beside_item, reading_of, Listed, listed, items_of}
-use Rattle.descriptor_loop.specs.declared.Item.{Item}
-use Rattle.descriptor_loop.specs.declared.Item.TheVariants.{End, Refused, Is}
 use Rattle.descriptor_loop.specs.declared.ItemRefusal.TheVariants.{InvalidDescriptorLength, Other}
 use Rattle.relabel.specs.Relabel.{payload_in, payload_then}
 use Rattle.relabel_found.proofs.Actives.{ActiveAt, active_at_lem}
@@ -21,6 +19,7 @@ use Rattle.relabel_joined.specs.Relabel.{type_then, item_then}
 use Rattle.relabel_laws.proofs.Items.{of_listed, moved_listed_lem, front_listed, own_listed, at_listed}
 use Rattle.relabel_laws.proofs.Lists.{lead_within}
 use Rattle.relabel_laws.specs.Result.{Result}
+use Rattle.std.specs.declared.result.Result as answer
 use Rattle.relabel_loop.specs.Loop.{moved_item, moved_listed, behind_item}
 use Rattle.relabel_upid.proofs.Theorems.{every_other_identifier_stays, the_upid_itself}
 use Rattle.relabel_upid.specs.Relabel.{upid_made}
@@ -31,6 +30,9 @@ use Rattle.upid.specs.Cover.{All, none, more}
 use Rattle.upid.specs.Upid.{eidr_of}
 use Rattle.relabel_canonical.specs.Beside.{besides, besides_in, beside_then}
 use Rattle.relabel_canonical.proofs.Canon.{tabled_then, tabled_now, fits}
+use Rattle.std.proofs.Common.{Ok, Err, Some, None, Option}
+use Rattle.descriptor.specs.declared.Descriptor.{Descriptor}
+use Rattle.descriptor_loop.specs.declared.ItemRefusal.{ItemRefusal}
 
 -- ---- what is read beside an item is told by its reading and its payload
 
@@ -64,15 +66,15 @@ tail_told [] y ys (more h hs) = hs
 tail_told (x ∷ xs) y ys (more h hs) = tail_told xs y ys hs
 
 -- where the views lie makes no difference
-same_beside : (n : ℕ) (i : Item) (p : List ℕ) → beside_item (moved_item n i) p ≡ beside_item i p
-same_beside n End p = refl
-same_beside n (Refused InvalidDescriptorLength) p = refl
-same_beside n (Refused (Other r)) p = refl
-same_beside n (Is (Avail x)) p = refl
-same_beside n (Is (Dtmf x)) p = refl
-same_beside n (Is (Time x)) p = refl
-same_beside n (Is (Reserved tag v)) p = refl
-same_beside n (Is (Segmentation x)) p = refl
+same_beside : (n : ℕ) (i : Option (answer.Result Descriptor ItemRefusal)) (p : List ℕ) → beside_item (moved_item n i) p ≡ beside_item i p
+same_beside n None p = refl
+same_beside n (Some (Err InvalidDescriptorLength)) p = refl
+same_beside n (Some (Err (Other r))) p = refl
+same_beside n (Some (Ok (Avail x))) p = refl
+same_beside n (Some (Ok (Dtmf x))) p = refl
+same_beside n (Some (Ok (Time x))) p = refl
+same_beside n (Some (Ok (Reserved tag v))) p = refl
+same_beside n (Some (Ok (Segmentation x))) p = refl
 
 moved_all : (pre s : List ℕ) (n : ℕ) → n ≡ length pre → (xs : List Listed) → map (of_listed beside_item (pre ++ s)) (map (moved_listed n) xs) ≡ map (of_listed beside_item s) xs
 moved_all pre s n e [] = refl
@@ -151,7 +153,7 @@ module _ (s : List ℕ) (offset part k : ℕ) (new r : List ℕ) (bytes : (j : �
   -- ---- the item
 
   old_is : old ≡ beside_of pay
-  old_is = told loop offset ∙ at_listed beside_item loop offset x.there ∙ ap (λ (y : Item). beside_item y pay) i.item
+  old_is = told loop offset ∙ at_listed beside_item loop offset x.there ∙ ap (λ (y : Option (answer.Result Descriptor ItemRefusal)). beside_item y pay) i.item
 
   old_eidr : old.eidr ≡ eidr_of (type_in pay) (upid_in pay)
   old_eidr =
@@ -161,7 +163,7 @@ module _ (s : List ℕ) (offset part k : ℕ) (new r : List ℕ) (bytes : (j : �
   item_then_lem =
       moved_listed_lem beside_item same_beside A (d ++ behind) (listed d 0) offset (sym A-long)
       ∙ own_listed beside_item (payload_then s offset part k x.upid) x.short behind
-      ∙ ap (λ (y : Item). beside_item y (payload_then s offset part k x.upid)) x.kept.own
+      ∙ ap (λ (y : Option (answer.Result Descriptor ItemRefusal)). beside_item y (payload_then s offset part k x.upid)) x.kept.own
       ∙ (tabled_then s offset part k new r bytes byte x).beside
       ∙ ap (λ (b : Beside). record { components = b.components; eidr = eidr_of K x.upid }) (sym old_is)
       ∙ eidr_then (type_in pay) (upid_in pay) part k new x.upid old x.made_of old_eidr

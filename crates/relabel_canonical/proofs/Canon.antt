@@ -35,13 +35,13 @@ use Rattle.table.proofs.Lists.{and_true}
 use Rattle.table.specs.Bits.{bits_of}
 use Rattle.table.specs.Table.{parse, canonical_by}
 use Rattle.upid.specs.Upid.{check_of}
-use Rattle.upid.specs.declared.UpidRead.TheVariants.{Fine}
 use Rattle.relabel_canonical.proofs.Frames.{frame_kept, command_kept}
 use Rattle.relabel_canonical.proofs.Loops.{next_at_lem, piece_at, with_canonical}
+use Rattle.std.proofs.Common.{Ok}
 
 -- ---- a payload with another UPID, which is not empty
 
-pub segmentation_kept : (s fore post : List ℕ) (k : ℕ) (u : List ℕ) (q : ℕ) → Tabled s fore post k u → check_of k u ≡ Fine q → 1 ≤ length u → canonical_segmentation s ≡ true
+pub segmentation_kept : (s fore post : List ℕ) (k : ℕ) (u : List ℕ) (q : ℕ) → Tabled s fore post k u → check_of k u ≡ Ok q → 1 ≤ length u → canonical_segmentation s ≡ true
     → canonical_segmentation (payload fore post k u) ≡ true
 unfolding canonical_segmentation canonical_upid
 segmentation_kept s fore post k u q t e some c =

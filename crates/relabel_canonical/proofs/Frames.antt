@@ -12,16 +12,17 @@ use Rattle.relabel_section.proofs.Frames.{with_loop, size_with, command_with_lem
 use Rattle.relabel_section.specs.Frame.{spare_of, section_with}
 use Rattle.section.specs.Section.{command_length, command_type, command_bytes, loop_length, section_of, number_of, section_length}
 use Rattle.section.specs.declared.Section.{Section}
-use Rattle.section.specs.declared.SectionRead.{SectionRead}
 use Rattle.canonical_form.specs.Section.{canonical_frame}
 use Rattle.table.proofs.Lists.{and_true}
 use Rattle.table.specs.Bits.{bits_of, field}
+use Rattle.std.proofs.Common.{Ok, Result}
+use Rattle.section.specs.declared.Refusal.{Refusal}
 
-number_none : (a : SectionRead) (x : Section) → a ≡ SectionRead.Is x → eqb (number_of a) 0 ≡ true
+number_none : (a : Result Section Refusal) (x : Section) → a ≡ Ok x → eqb (number_of a) 0 ≡ true
 unfolding number_of
 number_none a x e = rw e
 
-module _ (s loop : List ℕ) (x : Section) (is : section_of s ≡ SectionRead.Is x) (fits : length (section_with s loop) ≤ 4096) (byte : get_or s 1 0 < 256) where
+module _ (s loop : List ℕ) (x : Section) (is : section_of s ≡ Ok x) (fits : length (section_with s loop) ≤ 4096) (byte : get_or s 1 0 < 256) where
   abbrev new : List ℕ
   new = section_with s loop
 

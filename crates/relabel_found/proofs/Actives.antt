@@ -20,8 +20,6 @@ use Rattle.descriptor.specs.Segmentation.{cancelled}
 use Rattle.upid.specs.declared.Refusal.TheVariants.{NotEnoughData}
 use Rattle.descriptor.specs.Views.{with_upids}
 use Rattle.descriptor.specs.declared.Descriptor.TheVariants.{Avail, Dtmf, Segmentation, Time, Reserved}
-use Rattle.descriptor.specs.declared.DescriptorRead.{DescriptorRead}
-use Rattle.descriptor.specs.declared.DescriptorRead.TheVariants as read
 use Rattle.descriptor.specs.declared.segmentation.SegmentationDescriptor.{SegmentationDescriptor}
 use Rattle.descriptor.specs.declared.segmentation.DescriptorDetail.{DescriptorDetail}
 use Rattle.descriptor.specs.declared.segmentation.DescriptorDetail.TheVariants.{Cancel, Active}
@@ -29,23 +27,25 @@ use Rattle.descriptor.specs.declared.segmentation.SegmentationDetail.{Segmentati
 use Rattle.descriptor_loop.proofs.Steps.{Clause, long, ended, last, small, entire, clause, Stands}
 use Rattle.descriptor_loop.specs.Items.{item_at, read_at, complete_at, step_of, items_of}
 use Rattle.descriptor_loop.specs.Place.{moved_descriptor, moved_upid}
-use Rattle.descriptor_loop.specs.declared.Item.TheVariants.{Is}
 use Rattle.descriptor_loop.specs.declared.Step.{Step}
 use Rattle.relabel_payload.proofs.Theorems.{of_the_payload_only_the_upid_differs}
 use Rattle.relabel_payload.specs.Payload.{upid_head, Holed}
 use Rattle.relabel_found.specs.Found.{begins, is_active, found, payload_at, fore_in, type_in, size_in, upid_in, post_in}
+use Rattle.std.proofs.Common.{Ok, Err, Some, Result}
+use Rattle.descriptor.specs.declared.Descriptor.{Descriptor}
+use Rattle.upid.specs.declared.Refusal.{Refusal}
 
 -- ---- which reading is a segmentation descriptor that is not cancelled
 
-abbrev active_or_not : ℕ → DescriptorRead → Bool
+abbrev active_or_not : ℕ → Result Descriptor Refusal → Bool
 active_or_not base r = is_active (item_at base r)
 
 -- no other reader gives one
-then_not : {X : Type 0} (base : ℕ) (a : Answer X) (k : X → ℕ → DescriptorRead) → ((x : X) (m : ℕ) → active_or_not base (k x m) ≡ false) → active_or_not base (a and_then k) ≡ false
+then_not : {X : Type 0} (base : ℕ) (a : Answer X) (k : X → ℕ → Result Descriptor Refusal) → ((x : X) (m : ℕ) → active_or_not base (k x m) ≡ false) → active_or_not base (a and_then k) ≡ false
 then_not base (got x m) k h = h x m
 then_not base (short e f) k h = refl
 
-pick_not : (base : ℕ) (b : Bool) (r q : DescriptorRead) → active_or_not base r ≡ false → active_or_not base q ≡ false → active_or_not base (pick b r q) ≡ false
+pick_not : (base : ℕ) (b : Bool) (r q : Result Descriptor Refusal) → active_or_not base r ≡ false → active_or_not base q ≡ false → active_or_not base (pick b r q) ≡ false
 pick_not base true r q hr hq = hr
 pick_not base false r q hr hq = hq
 
@@ -53,22 +53,22 @@ module _ (base : ℕ) (s : List ℕ) where
   avail_not : active_or_not base (avail_of s) ≡ false
   unfolding avail_of
   avail_not =
-      pick_not base (ltb (length s) 4) (read.Refused (NotEnoughData 4 (length s))) (parse avail (bits_of s) 0 and_then λ x at. read.Is (Avail x)) refl
-      (then_not base (parse avail (bits_of s) 0) (λ x at. read.Is (Avail x)) λ x m. refl)
+      pick_not base (ltb (length s) 4) (Err (NotEnoughData 4 (length s))) (parse avail (bits_of s) 0 and_then λ x at. Ok (Avail x)) refl
+      (then_not base (parse avail (bits_of s) 0) (λ x at. Ok (Avail x)) λ x m. refl)
 
   dtmf_not : active_or_not base (dtmf_of s) ≡ false
   unfolding dtmf_of
-  dtmf_not = then_not base (parse dtmf (bits_of s) 0) (λ x at. read.Is (Dtmf x)) λ x m. refl
+  dtmf_not = then_not base (parse dtmf (bits_of s) 0) (λ x at. Ok (Dtmf x)) λ x m. refl
 
   time_not : active_or_not base (time_of s) ≡ false
   unfolding time_of
   time_not =
-      pick_not base (ltb (length s) 12) (read.Refused (NotEnoughData 12 (length s))) (parse time (bits_of s) 0 and_then λ x at. read.Is (Time x)) refl
-      (then_not base (parse time (bits_of s) 0) (λ x at. read.Is (Time x)) λ x m. refl)
+      pick_not base (ltb (length s) 12) (Err (NotEnoughData 12 (length s))) (parse time (bits_of s) 0 and_then λ x at. Ok (Time x)) refl
+      (then_not base (parse time (bits_of s) 0) (λ x at. Ok (Time x)) λ x m. refl)
 
   reserved_not : (tag : ℕ) → active_or_not base (reserved_of tag s) ≡ false
   unfolding reserved_of
-  reserved_not tag = then_not base (parse private_table (bits_of s) 0) (λ v at. read.Is (Reserved tag v)) λ x m. refl
+  reserved_not tag = then_not base (parse private_table (bits_of s) 0) (λ v at. Ok (Reserved tag v)) λ x m. refl
 
   -- by tag and identifier
   pub record Tagged (tag : ℕ) (id : List ℕ) : Type 0 where
@@ -99,21 +99,21 @@ module _ (base : ℕ) (s : List ℕ) where
         go false ci h = false_true _ (reserved_not tag) h
 
 -- what it reads as
-pub record ActiveIn (base : ℕ) (r : DescriptorRead) : Type 0 where
+pub record ActiveIn (base : ℕ) (r : Result Descriptor Refusal) : Type 0 where
   pub x : SegmentationDescriptor
   pub i : SegmentationDetail
-  pub is : r ≡ read.Is (Segmentation x)
+  pub is : r ≡ Ok (Segmentation x)
   pub detail : x.descriptor_detail ≡ Active i
 
-active_so : (base : ℕ) (r : DescriptorRead) → active_or_not base r ≡ true → ActiveIn base r
-active_so base (read.Refused q) e = zero_one cc
-active_so base (read.Is (Avail x)) e = zero_one cc
-active_so base (read.Is (Dtmf x)) e = zero_one cc
-active_so base (read.Is (Time x)) e = zero_one cc
-active_so base (read.Is (Reserved tag v)) e = zero_one cc
-active_so base (read.Is (Segmentation x)) e = go x.descriptor_detail refl e
+active_so : (base : ℕ) (r : Result Descriptor Refusal) → active_or_not base r ≡ true → ActiveIn base r
+active_so base (Err q) e = zero_one cc
+active_so base (Ok (Avail x)) e = zero_one cc
+active_so base (Ok (Dtmf x)) e = zero_one cc
+active_so base (Ok (Time x)) e = zero_one cc
+active_so base (Ok (Reserved tag v)) e = zero_one cc
+active_so base (Ok (Segmentation x)) e = go x.descriptor_detail refl e
   where
-    go : (d : DescriptorDetail) → x.descriptor_detail ≡ d → not (cancelled (with_upids (moved_upid base) d)) ≡ true → ActiveIn base (read.Is (Segmentation x))
+    go : (d : DescriptorDetail) → x.descriptor_detail ≡ d → not (cancelled (with_upids (moved_upid base) d)) ≡ true → ActiveIn base (Ok (Segmentation x))
     go Cancel ed h = zero_one cc
     go (Active i) ed h = record { x = x; i = i; is = refl; detail = ed }
 
@@ -148,9 +148,9 @@ pub record ActiveAt (loop : List ℕ) (offset : ℕ) : Type 0 where
   pub next : (step_of loop offset).next ≡ offset + (get_or loop (offset + 1) 0 + 2)
   pub x : SegmentationDescriptor
   pub i : SegmentationDetail
-  pub reads : segmentation_of (payload_at loop offset) ≡ read.Is (Segmentation x)
+  pub reads : segmentation_of (payload_at loop offset) ≡ Ok (Segmentation x)
   pub detail : x.descriptor_detail ≡ Active i
-  pub item : (step_of loop offset).item ≡ Is (moved_descriptor (offset + 6) (Segmentation x))
+  pub item : (step_of loop offset).item ≡ Some (Ok (moved_descriptor (offset + 6) (Segmentation x)))
 
 module _ (loop : List ℕ) (offset : ℕ) where
   complete_actives : (L : ℕ) → L ≡ get_or loop (offset + 1) 0 → Stands loop offset L → 4 ≤ L → step_of loop offset ≡ complete_at loop offset L → is_active (complete_at loop offset L).item ≡ true → ActiveAt loop offset
@@ -159,7 +159,7 @@ module _ (loop : List ℕ) (offset : ℕ) where
       let pay : List ℕ = take (L - 4) (drop (offset + 6) loop) in
       let t = tagged (offset + 6) pay (get_or loop offset 0) (take 4 (drop (offset + 2) loop)) e in
       let n : length (take 4 (drop (offset + 2) loop)) ≡ 4 = omega (arith, length-take 4 (drop (offset + 2) loop), length-drop (offset + 2) loop, s.six) in
-      let f : is_active (item_at (offset + 6) (segmentation_of pay)) ≡ true = ap (λ (r : DescriptorRead). is_active (item_at (offset + 6) r)) (sym t.reads) ∙ e in
+      let f : is_active (item_at (offset + 6) (segmentation_of pay)) ≡ true = ap (λ (r : Result Descriptor Refusal). is_active (item_at (offset + 6) r)) (sym t.reads) ∙ e in
       let j = active_so (offset + 6) (segmentation_of pay) f in
       record {
         stands = subst (λ (l : ℕ). Stands loop offset l) is s;

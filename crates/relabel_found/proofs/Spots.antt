@@ -13,7 +13,6 @@ use lib.Seq.{length-take-le}
 use borrow.Author.Tests.{eq-eqb, ne_eqb, eqb-true, eqb-false, le-leb, leb-true, lt-ltb, ltb-true, not-true}
 use Rattle.upid.proofs.Laws.{by_cases}
 use Rattle.upid.specs.Upid.{check_of}
-use Rattle.upid.specs.declared.UpidRead.{UpidRead}
 use Rattle.table.proofs.Fields.{byte_field}
 use Rattle.table.proofs.Lists.{zero_one, and_true}
 use Rattle.table.specs.Bits.{pick, bits_of}
@@ -26,11 +25,9 @@ use Rattle.descriptor.proofs.Segmentations.{front_is, head_is}
 use Rattle.descriptor.specs.Descriptor.{segmentation_of, cuei, is_cuei, descriptor_of}
 use Rattle.descriptor.specs.Segmentation.{Moded, ListedFront, Head, mode, duration, fields_before, written_upid, front, back, head}
 use Rattle.descriptor.specs.declared.Descriptor.TheVariants.{Segmentation}
-use Rattle.descriptor.specs.declared.DescriptorRead.TheVariants as read
 use Rattle.descriptor.specs.declared.segmentation.DescriptorDetail.TheVariants.{Active}
 use Rattle.descriptor.specs.declared.segmentation.SegmentationDescriptor.{SegmentationDescriptor}
 use Rattle.descriptor.specs.declared.segmentation.SegmentationDetail.{SegmentationDetail}
-use Rattle.descriptor.specs.declared.segmentation.SegmentationDuration.{SegmentationDuration}
 use Rattle.descriptor.specs.declared.segmentation.SegmentationMode.{SegmentationMode}
 use Rattle.descriptor.specs.declared.segmentation.SegmentationUpid.{SegmentationUpid}
 use Rattle.descriptor_loop.proofs.Lists.{items_none}
@@ -42,6 +39,7 @@ use Rattle.relabel_payload.specs.Payload.{upid_head}
 use Rattle.relabel_found.specs.Found.{begins, is_active, found, payload_at, type_in, size_in, upid_in, post_at, titled, complete, spots}
 use Rattle.relabel_found.proofs.Actives.{active_at_lem, begun, byte_in}
 use Rattle.relabel_found.proofs.Walks.{found_some}
+use Rattle.std.proofs.Common.{Ok, None, Option}
 
 -- ---- what `complete` says
 
@@ -74,11 +72,11 @@ module _ (s : List ℕ) (bytes : (k : ℕ) → get_or s k 0 < 256) where
       let m : Moded = record { mode = SegmentationMode.Component n; components = c.0 } in
       (m, by_components s 6 false refl (omega arith) n (sym (byte_field s 6 (omega arith) (bytes 6))) c.0 _ c.1 ∙ ap (got m) z)
 
-  duration_there : (b : Bool) (i : ℕ) → i + pick b 5 0 ≤ length s → (d : SegmentationDuration) × (parse (duration b) (bits_of s) (i * 8) ≡ got d ((i + pick b 5 0) * 8))
+  duration_there : (b : Bool) (i : ℕ) → i + pick b 5 0 ≤ length s → (d : Option ℕ) × (parse (duration b) (bits_of s) (i * 8) ≡ got d ((i + pick b 5 0) * 8))
   duration_there true i h = (_, lasts s i true refl _ refl h)
   duration_there false i h =
       let z : i * 8 ≡ (i + 0) * 8 = omega arith in
-      (SegmentationDuration.Absent, no_duration s i false refl ∙ ap (got SegmentationDuration.Absent) z)
+      (None, no_duration s i false refl ∙ ap (got None) z)
 
   -- the UPID as it is written
   abbrev written : SegmentationUpid
@@ -129,7 +127,7 @@ module _ (s : List ℕ) (bytes : (k : ℕ) → get_or s k 0 < 256) where
   pub record ActivePayload : Type 0 where
     pub x : SegmentationDescriptor
     pub i : SegmentationDetail
-    pub reads : segmentation_of s ≡ read.Is (Segmentation x)
+    pub reads : segmentation_of s ≡ Ok (Segmentation x)
     pub detail : x.descriptor_detail ≡ Active i
 
   upid_viewed : post_at s ≤ length s → viewed s written.bytes ≡ upid_in s
@@ -140,7 +138,7 @@ module _ (s : List ℕ) (bytes : (k : ℕ) → get_or s k 0 < 256) where
   unfolding upid_head
   five h = omega arith
 
-  pub reads_active : complete s ≡ true → (q : ℕ) → check_of (type_in s) (upid_in s) ≡ UpidRead.Fine q → ActivePayload
+  pub reads_active : complete s ≡ true → (q : ℕ) → check_of (type_in s) (upid_in s) ≡ Ok q → ActivePayload
   reads_active e q fine =
       let w = whole_is s e in
       let h : post_at s ≤ length s = omega (arith, w.behind) in
@@ -148,7 +146,7 @@ module _ (s : List ℕ) (bytes : (k : ℕ) → get_or s k 0 < 256) where
       let b = back_there (post_at s) w.behind w.other in
       let d = head_there (five h) in
       let off : cancels ≡ false = ne_eqb (get_or s 4 0 / 128 % 2) 1 (λ z. omega (arith, z, w.stays)) in
-      let same : check_of f.f.front.segmentation_upid.upid_type (viewed s f.f.front.segmentation_upid.bytes) ≡ UpidRead.Fine q =
+      let same : check_of f.f.front.segmentation_upid.upid_type (viewed s f.f.front.segmentation_upid.bytes) ≡ Ok q =
       ap (λ (u : SegmentationUpid). check_of u.upid_type (viewed s u.bytes)) f.upid ∙ ap (check_of (type_in s)) (upid_viewed h) ∙ fine in
       record { x = _; i = _; reads = assemble s _ 40 f.f (post_at s * 8) q b.0 b.1 d.1 off f.reads same b.2; detail = refl }
 
@@ -156,7 +154,7 @@ module _ (s : List ℕ) (bytes : (k : ℕ) → get_or s k 0 < 256) where
   unfolding upid_head
   room f before there = subst (λ (q : ℕ). q + 2 + get_or s (q + 1) 0 ≤ length s) before there
 
-  pub active_complete : (x : SegmentationDescriptor) (i : SegmentationDetail) → x.descriptor_detail ≡ Active i → segmentation_of s ≡ read.Is (Segmentation x) → complete s ≡ true
+  pub active_complete : (x : SegmentationDescriptor) (i : SegmentationDetail) → x.descriptor_detail ≡ Active i → segmentation_of s ≡ Ok (Segmentation x) → complete s ≡ true
   active_complete x i detail e =
       let p = parsed s x i detail e in
       let at : p.a ≡ 40 = head_ends s p.h p.a p.head_is in
@@ -245,7 +243,7 @@ module _ (loop : List ℕ) (offset : ℕ) where
   unfolding complete_at
   whole_item = refl
 
-  active_item : (base : ℕ) (x : SegmentationDescriptor) (i : SegmentationDetail) → x.descriptor_detail ≡ Active i → is_active (item_at base (read.Is (Segmentation x))) ≡ true
+  active_item : (base : ℕ) (x : SegmentationDescriptor) (i : SegmentationDetail) → x.descriptor_detail ≡ Active i → is_active (item_at base (Ok (Segmentation x))) ≡ true
   active_item base x i e = rw e
 
   module _ (bytes : (k : ℕ) → get_or loop k 0 < 256) where
@@ -253,7 +251,7 @@ module _ (loop : List ℕ) (offset : ℕ) where
     pay_bytes = byte_in loop (offset + 6) (L - 4) bytes
 
     -- an item that is spotted is found where its UPID is accepted
-    pub found_spots : spots loop offset ≡ true → (q : ℕ) → check_of (type_in pay) (upid_in pay) ≡ UpidRead.Fine q → found loop offset ≡ true
+    pub found_spots : spots loop offset ≡ true → (q : ℕ) → check_of (type_in pay) (upid_in pay) ≡ Ok q → found loop offset ≡ true
     found_spots e q fine =
         let s = spot_is e in
         let t = s.titled in

@@ -1,12 +1,12 @@
 -- Where an identifier stands that is to be replaced: an item of a loop, and the UPID in its payload.
-use Rattle.std.specs.Prelude.{ℕ, ◌+◌, ◌-◌, Bool, false, not, ◌&&◌, ◌||◌, List, [], ◌∷◌, ltb, leb, eqb, length, take, drop, get_or}
+use Rattle.std.specs.Prelude.{ℕ, ◌+◌, ◌-◌, Bool, false, not, ◌&&◌, ◌||◌, List, [], ◌∷◌, ltb, leb, eqb, length, take, drop, get_or, Ok, Err, Some, None, Option, Result}
 use Rattle.descriptor.specs.Descriptor.{is_cuei}
 use Rattle.descriptor.specs.Segmentation.{cancelled}
 use Rattle.descriptor.specs.Full.{of_segmentation}
 use Rattle.descriptor_loop.specs.Items.{step_of, Listed, items_of}
-use Rattle.descriptor_loop.specs.declared.Item.{Item}
-use Rattle.descriptor_loop.specs.declared.Item.TheVariants.{End, Refused, Is}
 use Rattle.relabel_payload.specs.Payload.{upid_head}
+use Rattle.descriptor.specs.declared.Descriptor.{Descriptor}
+use Rattle.descriptor_loop.specs.declared.ItemRefusal.{ItemRefusal}
 
 -- ---- the item
 
@@ -16,10 +16,10 @@ begins [] offset = false
 begins (x ∷ xs) offset = eqb x.offset offset || begins xs offset
 
 -- a segmentation descriptor that is not cancelled
-abbrev pub is_active : Item → Bool
-is_active End = false
-is_active (Refused r) = false
-is_active (Is d) = of_segmentation (λ x. not (cancelled x.descriptor_detail)) false d
+abbrev pub is_active : Option (Result Descriptor ItemRefusal) → Bool
+is_active None = false
+is_active (Some (Err r)) = false
+is_active (Some (Ok d)) = of_segmentation (λ x. not (cancelled x.descriptor_detail)) false d
 
 -- one that begins at an offset of the loop
 unfoldable pub found : List ℕ → ℕ → Bool

@@ -37,6 +37,7 @@ fn begins_item(items: &[u8], offset: usize) -> bool
     ensures { result ≡ begins (items_of items.now) offset }
 {
     let mut at: usize = 0;
+    // Each item says where the next one starts, so this counts no index.
     while at < items.len() {
         if offset <= at {
             return at == offset;

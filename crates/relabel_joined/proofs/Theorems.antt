@@ -7,13 +7,10 @@ use lib.ListN.{length}
 use Rattle.table.specs.Writing.{made}
 use Rattle.upid.specs.Upid.{check_of, upid_of}
 use Rattle.upid.specs.Private.{Accepted}
-use Rattle.upid.specs.declared.UpidRead.{UpidRead}
-use Rattle.upid.specs.declared.UpidRead.TheVariants.{Fine, Refused}
 use Rattle.descriptor.specs.declared.segmentation.SegmentationDetail.{SegmentationDetail}
 use Rattle.descriptor_loop.specs.Items.{Listed, items_of}
 use Rattle.section.specs.Section.{loop_bytes, section_of}
 use Rattle.section.specs.declared.Section.{Section}
-use Rattle.section.specs.declared.SectionRead.{SectionRead}
 use Rattle.relabel_loop.specs.Loop.{with_item}
 use Rattle.relabel_loop.proofs.Theorems.{every_other_item_stays, of_the_item_only_the_upid_differs}
 use Rattle.relabel_payload.specs.Payload.{payload, Holed}
@@ -22,13 +19,15 @@ use Rattle.relabel_section.proofs.Theorems.{header_and_command_stay}
 use Rattle.relabel_upid.specs.Relabel.{upid_made}
 use Rattle.relabel_upid.proofs.Theorems.{every_other_identifier_stays, the_upid_itself}
 use Rattle.relabel_joined.specs.Relabel.{type_then, item_then, relabelled, Kept}
+use Rattle.std.proofs.Common.{Ok, Err, Result}
+use Rattle.upid.specs.declared.Refusal.{Refusal}
 
-fine_of : (a : UpidRead) → Accepted a → (q : ℕ) × (a ≡ Fine q)
-fine_of (Fine q) h = (q, refl)
-fine_of (Refused r) h = absurd h
+fine_of : (a : Result ℕ Refusal) → Accepted a → (q : ℕ) × (a ≡ Ok q)
+fine_of (Ok q) h = (q, refl)
+fine_of (Err r) h = absurd h
 
 -- what is made of a UPID is accepted under the type that it then has
-pub made_fine : (upid_type_number : ℕ) (top : List ℕ) (part k : ℕ) (new b : List ℕ) → upid_made upid_type_number top part k new ≡ made b → (q : ℕ) × (check_of (type_then part upid_type_number k) b ≡ Fine q)
+pub made_fine : (upid_type_number : ℕ) (top : List ℕ) (part k : ℕ) (new b : List ℕ) → upid_made upid_type_number top part k new ≡ made b → (q : ℕ) × (check_of (type_then part upid_type_number k) b ≡ Ok q)
 unfolding upid_of
 made_fine upid_type_number top zero k new b e = fine_of (check_of k b) (the_upid_itself upid_type_number top k new b e).1
 made_fine upid_type_number top (suc i) k new b e =
@@ -44,7 +43,7 @@ made_byte upid_type_number top (suc i) k new b h e = omega (arith, (every_other_
 -- Then the relabelled section is accepted, its header, its command and every other item read the same, and of the item itself only the UPID differs. What becomes of
 -- the UPID is said by `every_other_identifier_stays` and `the_upid_itself` (relabel_upid).
 pub everything_else_stays : (s : List ℕ) (old : Section) (lead : List Listed) (x : Listed) (tail : List Listed) (event : ℕ) (i : SegmentationDetail) (pay : List ℕ) (h : Holed pay event i)
-    (part k : ℕ) (new b : List ℕ) → section_of s ≡ SectionRead.Is old → items_of (loop_bytes s) ≡ lead ++ (x ∷ tail) → k < 256 → upid_made h.upid_type h.bytes part k new ≡ made b
+    (part k : ℕ) (new b : List ℕ) → section_of s ≡ Ok old → items_of (loop_bytes s) ≡ lead ++ (x ∷ tail) → k < 256 → upid_made h.upid_type h.bytes part k new ≡ made b
     → length (payload h.fore h.post (type_then part h.upid_type k) b) ≤ 250
     → length (relabelled s x h.fore h.post (type_then part h.upid_type k) b) ≤ 4096
     → Kept s old lead x tail event i h.fore h.post (type_then part h.upid_type k) b

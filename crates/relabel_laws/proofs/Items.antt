@@ -12,7 +12,6 @@ use lib.ListN.{length, take, drop, get_or, length-append, length-drop}
 use lib.Seq.{take-append-le, drop-append-le, drop-append-add, take-append_seam}
 use Rattle.descriptor.specs.Descriptor.{cuei}
 use Rattle.descriptor_loop.specs.Items.{step_of, Listed, listed}
-use Rattle.descriptor_loop.specs.declared.Item.{Item}
 use Rattle.descriptor_loop.specs.declared.Step.{Step}
 use Rattle.relabel_found.proofs.Actives.{active_at_lem}
 use Rattle.relabel_found.specs.Found.{found, payload_at}
@@ -20,6 +19,9 @@ use Rattle.relabel_loop.proofs.Pieces.{piece, step_of_complete}
 use Rattle.relabel_loop.specs.Item.{segmentation_item}
 use Rattle.relabel_loop.specs.Loop.{moved_item, moved_listed}
 use Rattle.upid.proofs.Laws.{by_cases}
+use Rattle.std.proofs.Common.{Option, Result}
+use Rattle.descriptor.specs.declared.Descriptor.{Descriptor}
+use Rattle.descriptor_loop.specs.declared.ItemRefusal.{ItemRefusal}
 
 -- the item alone: its payload is all behind its head and identifier
 module _ (s : List ℕ) (short : length s ≤ 250) where
@@ -36,11 +38,11 @@ module _ (s : List ℕ) (short : length s ≤ 250) where
       ap (λ (l : List ℕ). (step_of l 0).next) alone
       ∙ ap (λ (x : Step). x.next) (step_of_complete 2 (cuei ++ s) right [] fits (omega (arith, body_size)) (omega (arith, body_size))) ∙ omega (arith, body_size)
 
-module _ {A : Type 0} (F : Item → List ℕ → A) where
+module _ {A : Type 0} (F : Option (Result Descriptor ItemRefusal) → List ℕ → A) where
   abbrev pub of_listed : List ℕ → Listed → A
   of_listed loop x = F x.step.item (take (x.used - 6) (drop (x.offset + 6) loop))
 
-  pub moved_listed_lem : ((n : ℕ) (i : Item) (p : List ℕ) → F (moved_item n i) p ≡ F i p) → (pre s : List ℕ) (x : Listed) (n : ℕ) → n ≡ length pre
+  pub moved_listed_lem : ((n : ℕ) (i : Option (Result Descriptor ItemRefusal)) (p : List ℕ) → F (moved_item n i) p ≡ F i p) → (pre s : List ℕ) (x : Listed) (n : ℕ) → n ≡ length pre
       → of_listed (pre ++ s) (moved_listed n x) ≡ of_listed s x
   moved_listed_lem same pre s x n e =
       let z : n + x.offset + 6 ≡ length pre + (x.offset + 6) = omega arith in

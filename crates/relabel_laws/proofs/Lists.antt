@@ -16,8 +16,6 @@ use Rattle.descriptor_loop.proofs.Lists.{Walked, stop, step}
 use Rattle.descriptor_loop.proofs.Steps.{forward}
 use Rattle.descriptor_loop.specs.Items.{step_of, Listed, listed}
 use Rattle.descriptor_loop.specs.Place.{moved_upid}
-use Rattle.descriptor_loop.specs.declared.Item.{Item}
-use Rattle.descriptor_loop.specs.declared.Item.TheVariants.{End, Refused, Is}
 use Rattle.descriptor_loop.specs.declared.ItemRefusal.TheVariants.{InvalidDescriptorLength, Other}
 use Rattle.relabel_found.specs.Found.{is_active, fore_in, type_in, size_in, post_in}
 use Rattle.relabel_loop.specs.Item.{segmentation_item}
@@ -28,6 +26,9 @@ use Rattle.upid.specs.Cover.{All, none, more}
 use Rattle.relabel_upid.specs.Kept.{Identifier}
 use Rattle.relabel_laws.specs.Identifiers.{of_upid, of_payload, of_item, each}
 use Rattle.relabel_laws.proofs.Items.{moved_listed_lem, front_listed, own_listed}
+use Rattle.std.proofs.Common.{Ok, Err, Some, None, Option, Result}
+use Rattle.descriptor.specs.declared.Descriptor.{Descriptor}
+use Rattle.descriptor_loop.specs.declared.ItemRefusal.{ItemRefusal}
 
 -- ---- lists of items
 
@@ -41,18 +42,18 @@ same_detail : (n : ℕ) (d : DescriptorDetail) → cancelled (with_upids (moved_
 same_detail n Cancel = refl
 same_detail n (Active i) = refl
 
-same_actives : (n : ℕ) (i : Item) → is_active (moved_item n i) ≡ is_active i
-same_actives n End = refl
-same_actives n (Refused InvalidDescriptorLength) = refl
-same_actives n (Refused (Other r)) = refl
-same_actives n (Is (Avail x)) = refl
-same_actives n (Is (Dtmf x)) = refl
-same_actives n (Is (Time x)) = refl
-same_actives n (Is (Reserved tag v)) = refl
-same_actives n (Is (Segmentation x)) = ap not (same_detail n x.descriptor_detail)
+same_actives : (n : ℕ) (i : Option (Result Descriptor ItemRefusal)) → is_active (moved_item n i) ≡ is_active i
+same_actives n None = refl
+same_actives n (Some (Err InvalidDescriptorLength)) = refl
+same_actives n (Some (Err (Other r))) = refl
+same_actives n (Some (Ok (Avail x))) = refl
+same_actives n (Some (Ok (Dtmf x))) = refl
+same_actives n (Some (Ok (Time x))) = refl
+same_actives n (Some (Ok (Reserved tag v))) = refl
+same_actives n (Some (Ok (Segmentation x))) = ap not (same_detail n x.descriptor_detail)
 
 -- what an item tells by its reading and its payload
-abbrev pub tells : Item → List ℕ → List Identifier
+abbrev pub tells : Option (Result Descriptor ItemRefusal) → List ℕ → List Identifier
 tells i p = pick (is_active i) (of_payload p) []
 
 pub moved_item_lem : (pre s : List ℕ) (x : Listed) (n : ℕ) → n ≡ length pre → of_item (pre ++ s) (moved_listed n x) ≡ of_item s x

@@ -20,11 +20,12 @@ use Rattle.relabel_upid.specs.Relabel.{upid_made}
 use Rattle.section.specs.Section.{command_length, loop_length, loop_bytes, section_of, number_of}
 use Rattle.section.specs.declared.Refusal.{Refusal}
 use Rattle.section.specs.declared.Section.{Section}
-use Rattle.section.specs.declared.SectionRead.{SectionRead}
 use Rattle.table.proofs.Lists.{zero_one, and_true}
 use Rattle.table.specs.Bits.{pick}
 use Rattle.table.specs.Writing.{Made, made, refused}
 use Rattle.relabel_laws.specs.Result.{Result}
+use Rattle.std.specs.declared.result.Result as answer
+use Rattle.std.proofs.Common.{Ok, Err}
 
 -- ---- a pick that made something
 
@@ -32,20 +33,20 @@ pub picked : (t : Bool) (m : Made) (n : ℕ) (r : List ℕ) → pick t m (refuse
 picked true m n r e = (refl, e)
 picked false m n r e = zero_one cc
 
-pub accepted_of : (a : SectionRead) → eqb (number_of a) 0 ≡ true → (x : Section) × (a ≡ SectionRead.Is x)
+pub accepted_of : (a : answer.Result Section Refusal) → eqb (number_of a) 0 ≡ true → (x : Section) × (a ≡ Ok x)
 unfolding number_of
-accepted_of (SectionRead.Is x) e = (x, refl)
-accepted_of (SectionRead.Refused Refusal.SectionTooShort) e = zero_one cc
-accepted_of (SectionRead.Refused Refusal.InputTooLong) e = zero_one cc
-accepted_of (SectionRead.Refused Refusal.OtherTable) e = zero_one cc
-accepted_of (SectionRead.Refused Refusal.WrongCrc) e = zero_one cc
-accepted_of (SectionRead.Refused Refusal.NoHeader) e = zero_one cc
-accepted_of (SectionRead.Refused Refusal.Encrypted) e = zero_one cc
-accepted_of (SectionRead.Refused Refusal.CommandTooLong) e = zero_one cc
-accepted_of (SectionRead.Refused Refusal.NoLoopLength) e = zero_one cc
-accepted_of (SectionRead.Refused Refusal.LoopTooLong) e = zero_one cc
-accepted_of (SectionRead.Refused Refusal.UnknownCommand) e = zero_one cc
-accepted_of (SectionRead.Refused Refusal.MalformedCommand) e = zero_one cc
+accepted_of (Ok x) e = (x, refl)
+accepted_of (Err Refusal.SectionTooShort) e = zero_one cc
+accepted_of (Err Refusal.InputTooLong) e = zero_one cc
+accepted_of (Err Refusal.OtherTable) e = zero_one cc
+accepted_of (Err Refusal.WrongCrc) e = zero_one cc
+accepted_of (Err Refusal.NoHeader) e = zero_one cc
+accepted_of (Err Refusal.Encrypted) e = zero_one cc
+accepted_of (Err Refusal.CommandTooLong) e = zero_one cc
+accepted_of (Err Refusal.NoLoopLength) e = zero_one cc
+accepted_of (Err Refusal.LoopTooLong) e = zero_one cc
+accepted_of (Err Refusal.UnknownCommand) e = zero_one cc
+accepted_of (Err Refusal.MalformedCommand) e = zero_one cc
 
 module _ (s : List ℕ) (offset part k : ℕ) (new r : List ℕ) where
   pub record Fitted (m : Made) : Type 0 where
@@ -84,7 +85,7 @@ module _ (s : List ℕ) (offset part k : ℕ) (new r : List ℕ) where
         let a = among (loop_bytes s) offset short_loop (begun (loop_bytes s) offset p₂.0) in
         of_hole x.0 x.1 p₂.0 f i h a
       where
-        of_hole : (old : Section) → section_of s ≡ SectionRead.Is old → found (loop_bytes s) offset ≡ true → (f : Fitted (upid_made (type_in pay) (upid_in pay) part k new)) (i : ActiveAt (loop_bytes s) offset)
+        of_hole : (old : Section) → section_of s ≡ Ok old → found (loop_bytes s) offset ≡ true → (f : Fitted (upid_made (type_in pay) (upid_in pay) part k new)) (i : ActiveAt (loop_bytes s) offset)
             → (h : Holed pay i.x.segmentation_event_id i.i) → Among (items_of (loop_bytes s)) (listed (loop_bytes s) offset) → Result s offset part k new r
         of_hole old ea ef f i h a =
             let ef₁ = fore_in_lem pay _ _ h in

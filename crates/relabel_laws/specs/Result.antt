@@ -1,5 +1,5 @@
 -- What is claimed of a section in which one identifier was replaced.
-use Rattle.std.specs.Prelude.{ℕ, ◌+◌, ◌≤◌, true, List, ◌∷◌, ◌++◌, ◌≡◌, length}
+use Rattle.std.specs.Prelude.{ℕ, ◌+◌, ◌≤◌, true, List, ◌∷◌, ◌++◌, ◌≡◌, length, Ok}
 use Rattle.descriptor.specs.declared.segmentation.SegmentationDetail.{SegmentationDetail}
 use Rattle.descriptor_loop.specs.Items.{Listed, listed, items_of}
 use Rattle.relabel.specs.Relabel.{payload_in, payload_then, section_then}
@@ -9,14 +9,13 @@ use Rattle.relabel_payload.specs.Payload.{payload, upid_head}
 use Rattle.relabel_upid.specs.Relabel.{upid_made}
 use Rattle.section.specs.Section.{loop_bytes, section_of}
 use Rattle.section.specs.declared.Section.{Section}
-use Rattle.section.specs.declared.SectionRead.{SectionRead}
 use Rattle.table.specs.Writing.{made}
 
 -- r is the section s in which part number `part` of the item at `offset` became an identifier of type `upid_type_number` with the bytes `new`
 pub record Result (s : List ℕ) (offset part upid_type_number : ℕ) (new r : List ℕ) : Type 0 where
   -- s is accepted, and an item of its loop begins at the offset: a segmentation descriptor that is not cancelled, with the active segmentation i of this event
   pub old : Section
-  pub accepted : section_of s ≡ SectionRead.Is old
+  pub accepted : section_of s ≡ Ok old
   pub lead : List Listed
   pub tail : List Listed
   pub items : items_of (loop_bytes s) ≡ lead ++ (listed (loop_bytes s) offset ∷ tail)

@@ -20,21 +20,19 @@ use Rattle.descriptor.specs.Views.{without_view}
 use Rattle.descriptor.specs.Full.{identifier_read}
 use Rattle.descriptor.specs.declared.Descriptor.{Descriptor}
 use Rattle.descriptor.specs.declared.Descriptor.TheVariants.{Avail, Dtmf, Segmentation, Time, Reserved}
-use Rattle.descriptor.specs.declared.DescriptorRead.{DescriptorRead}
-use Rattle.descriptor.specs.declared.DescriptorRead.TheVariants as read
 use Rattle.descriptor.specs.declared.segmentation.DescriptorDetail.{DescriptorDetail}
 use Rattle.descriptor.specs.declared.segmentation.DescriptorDetail.TheVariants.{Cancel, Active}
 use Rattle.descriptor.specs.declared.segmentation.SegmentationUpid.{SegmentationUpid}
 use Rattle.descriptor_loop.specs.Items.{short, without_identifier, item_at, read_at, complete_at, step_of, unless_end, Listed, listed, items_from, items_of}
 use Rattle.descriptor_loop.specs.Place.{moved_upid, moved_descriptor}
 use Rattle.descriptor_loop.specs.Private.{moved_detail}
-use Rattle.descriptor_loop.specs.declared.Item.{Item}
-use Rattle.descriptor_loop.specs.declared.Item.TheVariants.{End, Refused, Is}
 use Rattle.descriptor_loop.specs.declared.ItemRefusal.TheVariants.{InvalidDescriptorLength, Other}
 use Rattle.descriptor_loop.specs.declared.Step.{Step}
 use Rattle.descriptor_loop.proofs.Lists.{rest, items_rest}
 use Rattle.descriptor_loop.proofs.Steps.{step_end, step_few, step_over, step_full, step_small, step_complete}
 use Rattle.relabel_loop.specs.Loop.{moved_item, moved_step, moved_listed}
+use Rattle.std.proofs.Common.{Ok, Err, Some, None, Option, Result}
+use Rattle.descriptor_loop.specs.declared.ItemRefusal.{ItemRefusal}
 
 -- ---- moved twice
 
@@ -69,22 +67,22 @@ module _ (n b : ℕ) where
   refusal_twice (InvalidUpidLength upid_type_number expected actual) = refl
 
   -- what a payload was read as, at a place n bytes later
-  item_moved : (r : DescriptorRead) → moved_item n (item_at b r) ≡ item_at (n + b) r
-  item_moved (read.Is d) = ap Is (descriptor_twice d)
-  item_moved (read.Refused r) = ap (λ (x : Refusal). Refused (Other x)) (refusal_twice r)
+  item_moved : (r : Result Descriptor Refusal) → moved_item n (item_at b r) ≡ item_at (n + b) r
+  item_moved (Ok d) = ap (λ x. Some (Ok x)) (descriptor_twice d)
+  item_moved (Err r) = ap (λ (x : Refusal). Some (Err (Other x))) (refusal_twice r)
 
-  item_twice : (i : Item) → moved_item n (moved_item b i) ≡ moved_item (n + b) i
-  item_twice End = refl
-  item_twice (Refused InvalidDescriptorLength) = refl
-  item_twice (Refused (Other r)) = ap (λ (x : Refusal). Refused (Other x)) (refusal_twice r)
-  item_twice (Is d) = ap Is (descriptor_twice d)
+  item_twice : (i : Option (Result Descriptor ItemRefusal)) → moved_item n (moved_item b i) ≡ moved_item (n + b) i
+  item_twice None = refl
+  item_twice (Some (Err InvalidDescriptorLength)) = refl
+  item_twice (Some (Err (Other r))) = ap (λ (x : Refusal). Some (Err (Other x))) (refusal_twice r)
+  item_twice (Some (Ok d)) = ap (λ x. Some (Ok x)) (descriptor_twice d)
 
   pub listed_twice : (x : Listed) → moved_listed n (moved_listed b x) ≡ moved_listed (n + b) x
   listed_twice x =
       let o : n + (b + x.offset) ≡ n + b + x.offset = omega arith in
       let k : n + (b + x.step.next) ≡ n + b + x.step.next = omega arith in
       ap₂ (λ (p : ℕ) (s : Step). record { offset = p; used = x.used; step = s }) o
-      (ap₂ (λ (i : Item) (q : ℕ). record { item = i; identifier = x.step.identifier; next = q }) (item_twice x.step.item) k)
+      (ap₂ (λ (i : Option (Result Descriptor ItemRefusal)) (q : ℕ). record { item = i; identifier = x.step.identifier; next = q }) (item_twice x.step.item) k)
 
 pub map_twice : (n b : ℕ) (xs : List Listed) → map (moved_listed n) (map (moved_listed b) xs) ≡ map (moved_listed (n + b)) xs
 map_twice n b [] = refl
@@ -124,8 +122,8 @@ module _ (pre s : List ℕ) (fits : length (pre ++ s) ≤ 4076) where
       let base : n + o + 6 ≡ n + (o + 6) = omega arith in
       let next : n + o + (L + 2) ≡ n + (o + (L + 2)) = omega arith in
       let item : item_at (n + o + 6) (read_at s o L) ≡ moved_item n (item_at (o + 6) (read_at s o L)) = ap (λ (b : ℕ). item_at b (read_at s o L)) base ∙ sym (item_moved n (o + 6) (read_at s o L)) in
-      ap₂ (λ (r : DescriptorRead) (t : List ℕ). record { item = item_at (n + o + 6) r; identifier = identifier_read r (take 4 t); next = n + o + (L + 2) }) (read_there o L) (drop_there o 2)
-      ∙ ap₂ (λ (i : Item) (m : ℕ). record { item = i; identifier = identifier_read (read_at s o L) (take 4 (drop (o + 2) s)); next = m }) item next
+      ap₂ (λ (r : Result Descriptor Refusal) (t : List ℕ). record { item = item_at (n + o + 6) r; identifier = identifier_read r (take 4 t); next = n + o + (L + 2) }) (read_there o L) (drop_there o 2)
+      ∙ ap₂ (λ (i : Option (Result Descriptor ItemRefusal)) (m : ℕ). record { item = i; identifier = identifier_read (read_at s o L) (take 4 (drop (o + 2) s)); next = m }) item next
 
   same_left : (o : ℕ) → length (pre ++ s) - (n + o) ≡ length s - o
   same_left o = omega (arith, size)
@@ -142,7 +140,7 @@ module _ (pre s : List ℕ) (fits : length (pre ++ s) ≤ 4076) where
         by_cases 254 L
         (λ h.
         step_full (pre ++ s) (n + o) fits inside_there L is2 six2 there2 h
-        ∙ ap (without_identifier (Refused InvalidDescriptorLength)) size ∙ sym (ap (moved_step n) (step_full s o fits_rest inside L is six there h)))
+        ∙ ap (without_identifier (Some (Err InvalidDescriptorLength))) size ∙ sym (ap (moved_step n) (step_full s o fits_rest inside L is six there h)))
         (λ right.
         by_cases L 4
         (λ h.
@@ -172,13 +170,13 @@ module _ (pre s : List ℕ) (fits : length (pre ++ s) ≤ 4076) where
   pub step_moved : (o : ℕ) → step_of (pre ++ s) (n + o) ≡ moved_step n (step_of s o)
   step_moved o =
       by_cases o (length s) (begun o)
-      (λ h. step_end (pre ++ s) (n + o) fits (omega (arith, size)) ∙ ap (without_identifier End) size ∙ sym (ap (moved_step n) (step_end s o fits_rest h)))
+      (λ h. step_end (pre ++ s) (n + o) fits (omega (arith, size)) ∙ ap (without_identifier None) size ∙ sym (ap (moved_step n) (step_end s o fits_rest h)))
 
-  end_moved : (i : Item) (xs : List Listed) → unless_end (moved_item n i) (map (moved_listed n) xs) ≡ map (moved_listed n) (unless_end i xs)
-  end_moved End xs = refl
-  end_moved (Refused InvalidDescriptorLength) xs = refl
-  end_moved (Refused (Other r)) xs = refl
-  end_moved (Is d) xs = refl
+  end_moved : (i : Option (Result Descriptor ItemRefusal)) (xs : List Listed) → unless_end (moved_item n i) (map (moved_listed n) xs) ≡ map (moved_listed n) (unless_end i xs)
+  end_moved None xs = refl
+  end_moved (Some (Err InvalidDescriptorLength)) xs = refl
+  end_moved (Some (Err (Other r))) xs = refl
+  end_moved (Some (Ok d)) xs = refl
 
   listed_moved : (o : ℕ) → listed (pre ++ s) (n + o) ≡ moved_listed n (listed s o)
   listed_moved o =

@@ -10,7 +10,6 @@ use Rattle.table.specs.Lent.{viewed, shifted}
 use Rattle.table.specs.declared.View.{View}
 use Rattle.table.proofs.Longer.{viewed_on}
 use Rattle.upid.specs.Upid.{check_of}
-use Rattle.upid.specs.declared.UpidRead.TheVariants.{Fine}
 use Rattle.descriptor.specs.Descriptor.{reported_upid}
 use Rattle.descriptor.specs.Segmentation.{with_upid}
 use Rattle.descriptor.specs.declared.Descriptor.TheVariants.{Segmentation}
@@ -18,7 +17,6 @@ use Rattle.descriptor.specs.declared.segmentation.DescriptorDetail.TheVariants.{
 use Rattle.descriptor.specs.declared.segmentation.SegmentationDetail.{SegmentationDetail}
 use Rattle.descriptor_loop.specs.Items.{step_of, Listed, listed, items_of}
 use Rattle.descriptor_loop.specs.Place.{moved_descriptor}
-use Rattle.descriptor_loop.specs.declared.Item.TheVariants.{Is}
 use Rattle.relabel_payload.specs.Payload.{payload, Holed}
 use Rattle.relabel_loop.specs.Item.{segmentation_item}
 use Rattle.relabel_loop.specs.Loop.{moved_step, moved_listed, with_item, Piece, OthersStay}
@@ -26,6 +24,7 @@ use Rattle.relabel_loop.proofs.Moves as moves
 use Rattle.relabel_loop.proofs.Pieces as pieces
 use Rattle.relabel_loop.proofs.Replaced as replaced
 use Rattle.relabel_loop.proofs.Upids as upids
+use Rattle.std.proofs.Common.{Ok, Some}
 
 -- Any item x of a loop, also a refused one, replaced by an item d: every other item stays as it was, its views moved with its bytes.
 pub every_other_item_stays : (loop : List ℕ) (lead : List Listed) (x : Listed) (tail : List Listed) (d : List ℕ) → length loop ≤ 4076 → Piece d → length (with_item loop x d) ≤ 4076
@@ -34,11 +33,11 @@ every_other_item_stays = replaced.others_stay
 
 -- The item whose UPID is replaced: its payload is a hole that the UPID fills (`Holed`, relabel_payload/specs/Payload.antt); with any other UPID that is accepted, and
 -- its length mended, it is an item that may stand in the place of the old one, and of its reading only the UPID differs.
-pub of_the_item_only_the_upid_differs : (s : List ℕ) (event : ℕ) (i : SegmentationDetail) (h : Holed s event i) (k : ℕ) (u : List ℕ) (q : ℕ) → k < 256 → check_of k u ≡ Fine q
+pub of_the_item_only_the_upid_differs : (s : List ℕ) (event : ℕ) (i : SegmentationDetail) (h : Holed s event i) (k : ℕ) (u : List ℕ) (q : ℕ) → k < 256 → check_of k u ≡ Ok q
     → length (payload h.fore h.post k u) ≤ 250
     → Piece (segmentation_item (payload h.fore h.post k u))
     × ((step_of (segmentation_item (payload h.fore h.post k u)) 0).item
-    ≡ Is (moved_descriptor 6 (Segmentation (record { segmentation_event_id = event; descriptor_detail = Active (with_upid i (reported_upid q (record { at = length h.fore + 2; len = length u }))) }))))
+    ≡ Some (Ok (moved_descriptor 6 (Segmentation (record { segmentation_event_id = event; descriptor_detail = Active (with_upid i (reported_upid q (record { at = length h.fore + 2; len = length u }))) })))))
 of_the_item_only_the_upid_differs = upids.item_refilled
 
 -- A step depends on the bytes from its offset on, and on nothing before them: with more bytes before it, it is the same, moved.

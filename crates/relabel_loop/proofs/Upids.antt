@@ -5,7 +5,6 @@ use mathlib.Core.Path.{◌≡◌, refl, ap, sym, ◌∙◌}
 use native.Mathlib.Omega.{arith}
 use lib.ListN.{length, length-append}
 use Rattle.upid.specs.Upid.{check_of}
-use Rattle.upid.specs.declared.UpidRead.TheVariants.{Fine}
 use Rattle.descriptor.specs.Descriptor.{cuei, is_cuei, reported_upid, segmentation_of, descriptor_of}
 use Rattle.descriptor.specs.Segmentation.{with_upid}
 use Rattle.descriptor.specs.declared.Descriptor.TheVariants.{Segmentation}
@@ -13,12 +12,12 @@ use Rattle.descriptor.specs.declared.segmentation.DescriptorDetail.TheVariants.{
 use Rattle.descriptor.specs.declared.segmentation.SegmentationDetail.{SegmentationDetail}
 use Rattle.descriptor_loop.specs.Items.{item_at, step_of}
 use Rattle.descriptor_loop.specs.Place.{moved_descriptor}
-use Rattle.descriptor_loop.specs.declared.Item.TheVariants.{Is}
 use Rattle.descriptor_loop.specs.declared.Step.{Step}
 use Rattle.relabel_payload.specs.Payload.{payload, Holed}
 use Rattle.relabel_loop.specs.Item.{segmentation_item}
 use Rattle.relabel_loop.specs.Loop.{Piece}
 use Rattle.relabel_loop.proofs.Pieces.{piece, step_of_complete}
+use Rattle.std.proofs.Common.{Ok, Some}
 
 is_segmentation : (s : List ℕ) → descriptor_of 2 cuei s ≡ segmentation_of s
 unfolding descriptor_of is_cuei
@@ -44,10 +43,10 @@ module _ (s : List ℕ) (short : length s ≤ 250) where
       ∙ ap (λ (x : Step). x.item) (step_of_complete 2 (cuei ++ s) right [] fits (omega (arith, body_size)) (omega (arith, body_size)))
       ∙ ap (item_at 6) (is_segmentation s)
 
-pub item_refilled : (s : List ℕ) (event : ℕ) (i : SegmentationDetail) (h : Holed s event i) (k : ℕ) (u : List ℕ) (q : ℕ) → k < 256 → check_of k u ≡ Fine q
+pub item_refilled : (s : List ℕ) (event : ℕ) (i : SegmentationDetail) (h : Holed s event i) (k : ℕ) (u : List ℕ) (q : ℕ) → k < 256 → check_of k u ≡ Ok q
     → length (payload h.fore h.post k u) ≤ 250
     → Piece (segmentation_item (payload h.fore h.post k u))
     × ((step_of (segmentation_item (payload h.fore h.post k u)) 0).item
-    ≡ Is (moved_descriptor 6 (Segmentation (record { segmentation_event_id = event; descriptor_detail = Active (with_upid i (reported_upid q (record { at = length h.fore + 2; len = length u }))) }))))
+    ≡ Some (Ok (moved_descriptor 6 (Segmentation (record { segmentation_event_id = event; descriptor_detail = Active (with_upid i (reported_upid q (record { at = length h.fore + 2; len = length u }))) })))))
 item_refilled s event i h k u q hk e short =
     (item_piece (payload h.fore h.post k u) short, item_reads (payload h.fore h.post k u) short ∙ ap (item_at 6) (h.refilled k u q hk e))

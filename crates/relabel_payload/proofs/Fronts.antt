@@ -18,10 +18,10 @@ use Rattle.table.proofs.Steps.{reads_in, takes_in, canonical_inside, reads_numbe
 use Rattle.table.proofs.Swaps.{forward, swap, swap_form, EndsAt, ends_at, ends_inside, ends_pick, ends_list}
 use Rattle.descriptor.proofs.Longer.{blind_delivery, blind_mode, blind_duration}
 use Rattle.descriptor.specs.Segmentation.{ListedFront, Moded, delivery_restrictions, component, blank_component, mode, duration, written_upid, parts, front, head, active_from}
-use Rattle.descriptor.specs.declared.segmentation.DeliveryRestrictionFlags.{DeliveryRestrictionFlags}
-use Rattle.descriptor.specs.declared.segmentation.SegmentationDuration.{SegmentationDuration}
 use Rattle.descriptor.specs.declared.segmentation.SegmentationUpid.{SegmentationUpid}
 use Rattle.relabel_payload.specs.Payload.{payload}
+use Rattle.std.proofs.Common.{Option}
+use Rattle.descriptor.specs.declared.segmentation.DeliveryRestrictions.{DeliveryRestrictions}
 
 -- ---- tables that never ask how many bytes are left, and end where a byte begins
 
@@ -106,7 +106,7 @@ pub record Split (bs : List ℕ) (at : ℕ) (f : ListedFront) (m : ℕ) : Type 0
   pub form : (pre r other : List ℕ) → bs ≡ pre ++ r → seam ≤ length pre → (u : SegmentationUpid) (n : ℕ) → parse written_upid (pre ++ other) seam ≡ got u n
       → canonical front (pre ++ other) at ≡ canonical front bs at
 
-abbrev made : Bool → Bool → Bool → DeliveryRestrictionFlags → Moded → SegmentationDuration → SegmentationUpid → ListedFront
+abbrev made : Bool → Bool → Bool → Option DeliveryRestrictions → Moded → Option ℕ → SegmentationUpid → ListedFront
 made program lasting free restrictions moded lasts upid =
     record {
       front = record {

@@ -17,14 +17,12 @@ use Rattle.table.proofs.Steps.{takes_in, canonical_inside}
 use Rattle.table.proofs.Swaps.{swap, swap_form, Sightless, sightless_inside, sightless_pick, later, shift, shift_form, ends_at}
 use Rattle.upid.specs.Upid.{check_of, eidr_of}
 use Rattle.upid.specs.Private.{Accepted}
-use Rattle.upid.specs.declared.UpidRead.{UpidRead}
 use Rattle.upid.proofs.Walks.{check_short}
 use Rattle.descriptor.specs.Descriptor.{◌and_then◌, reported_upid, if_fine, active_with, active_of, segmentation_of}
 use Rattle.descriptor.specs.Segmentation as table
 use Rattle.descriptor.specs.Segmentation.{ListedFront, Head, head, front, back, sub_segments, written_upid, active_from, with_upid, segmentation}
 use Rattle.descriptor.specs.Full.{filled, beside_in, beside_of}
 use Rattle.descriptor.specs.declared.Descriptor.TheVariants.{Segmentation}
-use Rattle.descriptor.specs.declared.DescriptorRead.TheVariants.{Is}
 use Rattle.descriptor.specs.declared.segmentation.SegmentationDescriptor.{SegmentationDescriptor}
 use Rattle.descriptor.specs.declared.segmentation.DescriptorDetail.{DescriptorDetail}
 use Rattle.descriptor.specs.declared.segmentation.DescriptorDetail.TheVariants.{Cancel, Active}
@@ -36,6 +34,8 @@ use Rattle.descriptor.proofs.Heads.{head_ends, front_told}
 use Rattle.descriptor.proofs.Longer.{blind_head}
 use Rattle.relabel_payload.specs.Payload.{payload, upid_head, upid_place, Tabled, Holed}
 use Rattle.relabel_payload.proofs.Fronts.{ends_head, Split, split_front, Written, written_is, written_puts}
+use Rattle.std.proofs.Common.{Ok, Err, Result}
+use Rattle.upid.specs.declared.Refusal.{Refusal}
 
 -- what a table reads
 abbrev pub Of : {X : Type 0} → Table X → Type 0
@@ -61,7 +61,7 @@ pub record Parsed (s : List ℕ) (event : ℕ) (i : SegmentationDetail) : Type 0
   pub m : ℕ
   pub front_is : parse front (bits_of s) a ≡ got f m
   pub q : ℕ
-  pub fine : check_of f.front.segmentation_upid.upid_type (viewed s f.front.segmentation_upid.bytes) ≡ UpidRead.Fine q
+  pub fine : check_of f.front.segmentation_upid.upid_type (viewed s f.front.segmentation_upid.bytes) ≡ Ok q
   pub b : Of back
   pub n : ℕ
   pub back_is : parse back (bits_of s) m ≡ got b n
@@ -72,8 +72,8 @@ module _ (s : List ℕ) (x : SegmentationDescriptor) (i : SegmentationDetail) (d
     abbrev upid₀ : SegmentationUpid
     upid₀ = f.front.segmentation_upid
 
-    of_back : (q : ℕ) → check_of upid₀.upid_type (viewed s upid₀.bytes) ≡ UpidRead.Fine q → (r : Answer (Of back)) → parse back (bits_of s) m ≡ r
-        → (r and_then λ b n. active_with h.event f.front (reported_upid q upid₀.bytes) b) ≡ Is (Segmentation x) → Parsed s x.segmentation_event_id i
+    of_back : (q : ℕ) → check_of upid₀.upid_type (viewed s upid₀.bytes) ≡ Ok q → (r : Answer (Of back)) → parse back (bits_of s) m ≡ r
+        → (r and_then λ b n. active_with h.event f.front (reported_upid q upid₀.bytes) b) ≡ Ok (Segmentation x) → Parsed s x.segmentation_event_id i
     unfolding active_with
     of_back q fine (got b n) eb e =
         let z : ◌≡◌ {A = SegmentationDescriptor} (record { segmentation_event_id = h.event; descriptor_detail = Active (active_from f.front (reported_upid q upid₀.bytes) b) }) x = cc in
@@ -96,20 +96,20 @@ module _ (s : List ℕ) (x : SegmentationDescriptor) (i : SegmentationDetail) (d
         }
     of_back q fine (short expected actual) eb e = zero_one cc
 
-    of_check : (r : UpidRead) → check_of upid₀.upid_type (viewed s upid₀.bytes) ≡ r
-        → (if_fine r upid₀.bytes λ upid. parse back (bits_of s) m and_then λ b n. active_with h.event f.front upid b) ≡ Is (Segmentation x) → Parsed s x.segmentation_event_id i
-    of_check (UpidRead.Fine q) ec e = of_back q ec (parse back (bits_of s) m) refl e
-    of_check (UpidRead.Refused r) ec e = zero_one cc
+    of_check : (r : Result ℕ Refusal) → check_of upid₀.upid_type (viewed s upid₀.bytes) ≡ r
+        → (if_fine r upid₀.bytes λ upid. parse back (bits_of s) m and_then λ b n. active_with h.event f.front upid b) ≡ Ok (Segmentation x) → Parsed s x.segmentation_event_id i
+    of_check (Ok q) ec e = of_back q ec (parse back (bits_of s) m) refl e
+    of_check (Err r) ec e = zero_one cc
 
   module _ (h : Head) (a : ℕ) (eh : parse head (bits_of s) 0 ≡ got h a) where
     of_front : h.cancel ≡ false → (r : Answer ListedFront) → parse front (bits_of s) a ≡ r
         → (r and_then λ f m. if_fine (check_of f.front.segmentation_upid.upid_type (viewed s f.front.segmentation_upid.bytes)) f.front.segmentation_upid.bytes λ upid.
-        parse back (bits_of s) m and_then λ b n. active_with h.event f.front upid b) ≡ Is (Segmentation x) → Parsed s x.segmentation_event_id i
+        parse back (bits_of s) m and_then λ b n. active_with h.event f.front upid b) ≡ Ok (Segmentation x) → Parsed s x.segmentation_event_id i
     of_front stays (got f m) ef e = of_check h a eh stays f m ef (check_of f.front.segmentation_upid.upid_type (viewed s f.front.segmentation_upid.bytes)) refl e
     of_front stays (short expected actual) ef e = zero_one cc
 
     of_cancel : (t : Bool) → h.cancel ≡ t
-        → pick t (Is (Segmentation (record { segmentation_event_id = h.event; descriptor_detail = Cancel }))) (active_of s h.event a) ≡ Is (Segmentation x)
+        → pick t (Ok (Segmentation (record { segmentation_event_id = h.event; descriptor_detail = Cancel }))) (active_of s h.event a) ≡ Ok (Segmentation x)
         → Parsed s x.segmentation_event_id i
     unfolding active_of
     of_cancel true ec e =
@@ -119,19 +119,19 @@ module _ (s : List ℕ) (x : SegmentationDescriptor) (i : SegmentationDetail) (d
     of_cancel false ec e = of_front ec (parse front (bits_of s) a) refl e
 
   of_head : (r : Answer Head) → parse head (bits_of s) 0 ≡ r
-      → (r and_then λ h at. pick h.cancel (Is (Segmentation (record { segmentation_event_id = h.event; descriptor_detail = Cancel }))) (active_of s h.event at)) ≡ Is (Segmentation x)
+      → (r and_then λ h at. pick h.cancel (Ok (Segmentation (record { segmentation_event_id = h.event; descriptor_detail = Cancel }))) (active_of s h.event at)) ≡ Ok (Segmentation x)
       → Parsed s x.segmentation_event_id i
   of_head (got h a) eh e = of_cancel h a eh h.cancel refl e
   of_head (short expected actual) eh e = zero_one cc
 
-  pub parsed : segmentation_of s ≡ Is (Segmentation x) → Parsed s x.segmentation_event_id i
+  pub parsed : segmentation_of s ≡ Ok (Segmentation x) → Parsed s x.segmentation_event_id i
   unfolding segmentation_of
   parsed e = of_head (parse head (bits_of s) 0) refl e
 
 -- and the other way round
 pub assemble : (s : List ℕ) (h : Head) (a : ℕ) (f : ListedFront) (m q : ℕ) (b : Of back) (n : ℕ) → parse head (bits_of s) 0 ≡ got h a → h.cancel ≡ false → parse front (bits_of s) a ≡ got f m
-    → check_of f.front.segmentation_upid.upid_type (viewed s f.front.segmentation_upid.bytes) ≡ UpidRead.Fine q → parse back (bits_of s) m ≡ got b n
-    → segmentation_of s ≡ Is (Segmentation (record { segmentation_event_id = h.event; descriptor_detail = Active (active_from f.front (reported_upid q f.front.segmentation_upid.bytes) b) }))
+    → check_of f.front.segmentation_upid.upid_type (viewed s f.front.segmentation_upid.bytes) ≡ Ok q → parse back (bits_of s) m ≡ got b n
+    → segmentation_of s ≡ Ok (Segmentation (record { segmentation_event_id = h.event; descriptor_detail = Active (active_from f.front (reported_upid q f.front.segmentation_upid.bytes) b) }))
 unfolding segmentation_of active_of active_with
 assemble s h a f m q b n eh stays ef ec eb = rw (eh, stays, ef, ec, eb)
 
@@ -286,7 +286,7 @@ module _ (s : List ℕ) (event : ℕ) (i : SegmentationDetail) (bytes : (k : ℕ
   place_is : length fore ≡ upid_head s
   place_is = omega (arith, ap (λ (u : SegmentationUpid). u.bytes.at) upid_is_lem, head_at_lem s bytes p.h p.a p.head_is p.f p.m p.front_is)
 
-  fine_is : check_of written.upid_type written.bytes ≡ UpidRead.Fine p.q
+  fine_is : check_of written.upid_type written.bytes ≡ Ok p.q
   fine_is =
       sym (ap (λ (u : SegmentationUpid). check_of u.upid_type (viewed s u.bytes)) upid_is_lem
       ∙ ap (λ (l : List ℕ). check_of written.upid_type (viewed l (record { at = length fore + 2; len = length written.bytes }))) is_holed
@@ -298,7 +298,7 @@ module _ (s : List ℕ) (event : ℕ) (i : SegmentationDetail) (bytes : (k : ℕ
       ap₂ (λ (l : List ℕ) (n : ℕ). parse back (bits_of l) ((n + 2 + length written.bytes) * 8)) (sym is_holed) fore_size
       ∙ ap (parse back (bits_of s)) (sym written.end) ∙ p.back_is
 
-  module _ (k : ℕ) (u : List ℕ) (r : ℕ) (hk : k < 256) (ec : check_of k u ≡ UpidRead.Fine r) where
+  module _ (k : ℕ) (u : List ℕ) (r : ℕ) (hk : k < 256) (ec : check_of k u ≡ Ok r) where
     new : List ℕ
     new = payload fore written.post k u
 
@@ -339,7 +339,7 @@ module _ (s : List ℕ) (event : ℕ) (i : SegmentationDetail) (bytes : (k : ℕ
     unfolding new
     new_bytes_lem = viewed_payload fore written.post k u
 
-    new_fine : check_of (split.make place).front.segmentation_upid.upid_type (viewed new (split.make place).front.segmentation_upid.bytes) ≡ UpidRead.Fine r
+    new_fine : check_of (split.make place).front.segmentation_upid.upid_type (viewed new (split.make place).front.segmentation_upid.bytes) ≡ Ok r
     unfolding new place
     new_fine =
         ap (λ (x : SegmentationUpid). check_of x.upid_type (viewed new x.bytes)) (split.has place)
@@ -358,10 +358,10 @@ module _ (s : List ℕ) (event : ℕ) (i : SegmentationDetail) (bytes : (k : ℕ
         ∙ split.keeps place (reported_upid r (record { at = length fore + 2; len = length u })) p.b
         ∙ ap (λ (j : SegmentationDetail). with_upid j (reported_upid r (record { at = length fore + 2; len = length u }))) p.is
 
-    new_reads : segmentation_of new ≡ Is (Segmentation (record { segmentation_event_id = event; descriptor_detail = Active (with_upid i (reported_upid r (record { at = length fore + 2; len = length u }))) }))
+    new_reads : segmentation_of new ≡ Ok (Segmentation (record { segmentation_event_id = event; descriptor_detail = Active (with_upid i (reported_upid r (record { at = length fore + 2; len = length u }))) }))
     new_reads =
         assemble new p.h p.a (split.make place) ((length fore + 2 + length u) * 8) r p.b ((length fore + 2 + length u) * 8 + new_back.0) new_head p.stays new_front new_fine new_back.1
-        ∙ ap₂ (λ (e : ℕ) (j : SegmentationDetail). Is (Segmentation (record { segmentation_event_id = e; descriptor_detail = Active j }))) p.event_is same_active
+        ∙ ap₂ (λ (e : ℕ) (j : SegmentationDetail). Ok (Segmentation (record { segmentation_event_id = e; descriptor_detail = Active j }))) p.event_is same_active
 
     -- ---- the same by its table
 
@@ -453,6 +453,6 @@ module _ (s : List ℕ) (event : ℕ) (i : SegmentationDetail) (bytes : (k : ℕ
         tabled = new_tabled;
       }
 
-pub holed : (s : List ℕ) (x : SegmentationDescriptor) (i : SegmentationDetail) → ((k : ℕ) → get_or s k 0 < 256) → segmentation_of s ≡ Is (Segmentation x) → x.descriptor_detail ≡ Active i
+pub holed : (s : List ℕ) (x : SegmentationDescriptor) (i : SegmentationDetail) → ((k : ℕ) → get_or s k 0 < 256) → segmentation_of s ≡ Ok (Segmentation x) → x.descriptor_detail ≡ Active i
     → Holed s x.segmentation_event_id i
 holed s x i bytes e d = holed_parsed s x.segmentation_event_id i bytes (parsed s x i d e)

@@ -1,4 +1,5 @@
 -- A section with another loop is accepted, and reads the same but for its loop.
+use Rattle.section.specs.declared.Refusal.{Refusal}
 use Prim.Native.Nat.{ℕ, ◌+◌, ◌*◌, ◌-◌, ◌/◌, ◌%◌, ◌≤◌, ◌<◌}
 use mathlib.Core.Bool.{false, not}
 use mathlib.Core.List.{List, [], ◌∷◌, ◌++◌, append_assoc}
@@ -9,11 +10,9 @@ use lib.ListN.{length, take, drop, get_or, length-append, length-take, length-dr
 use lib.Seq.{length-take-le, take-append-le, drop-append-le, get_or-append-add, drop-append-add, take-append_seam}
 use borrow.Author.Tests.{le-ltb, ltb-false, le-leb}
 use Rattle.command.specs.Command.{command_of}
-use Rattle.command.specs.declared.CommandRead.{CommandRead}
 use Rattle.crc.specs.Crc.{crc_of, crc_bytes_of}
 use Rattle.crc.proofs.Laws.{crc_appended}
 use Rattle.header.specs.Header.{splice_header, header_read, header_of}
-use Rattle.header.specs.declared.header.HeaderRead.{HeaderRead}
 use Rattle.header.proofs.Headers.{header_got}
 use Rattle.table.specs.Bits.{bits_of, field, num, big_endian}
 use Rattle.table.specs.Lent.{viewed}
@@ -25,13 +24,16 @@ use Rattle.table.proofs.Lists.{zero_one}
 use Rattle.table.proofs.Longer.{Blind}
 use Rattle.section.specs.Section.{command_length, command_type, command_bytes, room_after, loop_length, loop_place, loop_bytes, frame_in, frame_of, moved_read, accepted, section_of, conditions, None}
 use Rattle.section.specs.declared.Frame.{Frame}
-use Rattle.section.specs.declared.FrameRead.{FrameRead}
 use Rattle.section.specs.declared.Section.{Section}
-use Rattle.section.specs.declared.SectionRead.{SectionRead}
 use Rattle.section.proofs.Acceptance.{none_if_accepted}
 use Rattle.section.proofs.Framing.{number_of, extent_is, command_read, is_accepted}
 use Rattle.table.proofs.Swaps.{swap}
 use Rattle.relabel_section.specs.Frame.{header_and_command, spare_of, rest_with, body_with, section_with}
+use Rattle.std.proofs.Common.{Ok, Err, Some, Option, Result}
+use Rattle.std.specs.declared.option.Option.TheVariants as option
+use Rattle.command.specs.declared.SpliceCommand.{SpliceCommand}
+use Rattle.command.specs.declared.CommandRefusal.{CommandRefusal}
+use Rattle.header.specs.declared.header.SpliceInfoHeader.{SpliceInfoHeader}
 
 -- ---- fields behind three bytes that may differ, of bytes that begin alike
 
@@ -81,20 +83,20 @@ three_bytes (a ∷ (b ∷ [])) h = absurd (omega arith)
 three_bytes (a ∷ (b ∷ (c ∷ t))) h = refl
 
 -- the same with another frame
-accepted_with : (h : HeaderRead) (r : CommandRead) (v w : Frame) (x : Section) → accepted h r v ≡ SectionRead.Is x
-    → accepted h r w ≡ SectionRead.Is (record { header = x.header; command = x.command; descriptors = w.descriptors; payload = w.command })
+accepted_with : (h : Option SpliceInfoHeader) (r : Result SpliceCommand CommandRefusal) (v w : Frame) (x : Section) → accepted h r v ≡ Ok x
+    → accepted h r w ≡ Ok (record { header = x.header; command = x.command; descriptors = w.descriptors; payload = w.command })
 unfolding accepted
-accepted_with (HeaderRead.Header h) (CommandRead.Is c) v w x e =
+accepted_with (Some h) (Ok c) v w x e =
     let z : ◌≡◌ {A = Section} (record { header = h; command = c; descriptors = v.descriptors; payload = v.command }) x = cc in
-    ap (λ (y : Section). SectionRead.Is (record { header = y.header; command = y.command; descriptors = w.descriptors; payload = w.command })) z
-accepted_with (HeaderRead.Header h) CommandRead.UnknownType v w x e = zero_one cc
-accepted_with (HeaderRead.Header h) CommandRead.Malformed v w x e = zero_one cc
-accepted_with HeaderRead.NoHeader r v w x e = zero_one cc
+    ap (λ (y : Section). Ok (record { header = y.header; command = y.command; descriptors = w.descriptors; payload = w.command })) z
+accepted_with (Some h) (Err CommandRefusal.UnknownType) v w x e = zero_one cc
+accepted_with (Some h) (Err CommandRefusal.Malformed) v w x e = zero_one cc
+accepted_with option.None r v w x e = zero_one cc
 
-section_inj : (x y : Section) → SectionRead.Is x ≡ SectionRead.Is y → x ≡ y
+section_inj : (x y : Section) → ◌≡◌ {A = Result Section Refusal} (Ok x) (Ok y) → x ≡ y
 section_inj x y e = cc
 
-module _ (s loop : List ℕ) (x : Section) (is : section_of s ≡ SectionRead.Is x) (fits : length (section_with s loop) ≤ 4096) where
+module _ (s loop : List ℕ) (x : Section) (is : section_of s ≡ Ok x) (fits : length (section_with s loop) ≤ 4096) where
   tests : None (conditions s)
   tests = none_if_accepted s x is
 
@@ -255,7 +257,7 @@ module _ (s loop : List ℕ) (x : Section) (is : section_of s ≡ SectionRead.Is
   unfolding new section_with
   crc_right = crc_appended (body_with s loop)
 
-  new_frame : frame_of new ≡ FrameRead.Is (frame_in new)
+  new_frame : frame_of new ≡ Ok (frame_in new)
   unfolding frame_of room_after
   new_frame =
       let l : length new ≤ 4096 = new_fits in
@@ -270,7 +272,7 @@ module _ (s loop : List ℕ) (x : Section) (is : section_of s ≡ SectionRead.Is
       let t9 : ltb (length new - 18 - command_length new) (loop_length new + 2) ≡ false = le-ltb (length new - 18 - command_length new) (loop_length new + 2) (omega (arith, new_size, command_length_same, loop_length_lem)) in
       rw (t1, t2, t3, t4, t5, t6, t7, t8, t9)
 
-  old_frame : frame_of s ≡ FrameRead.Is (frame_in s)
+  old_frame : frame_of s ≡ Ok (frame_in s)
   unfolding frame_of
   old_frame =
       rw (
@@ -285,7 +287,7 @@ module _ (s loop : List ℕ) (x : Section) (is : section_of s ≡ SectionRead.Is
         tests.1.1.1.1.1.1.1.1.0,
       )
 
-  old_accepted : accepted (header_of (drop 3 s)) (moved_read (command_read s)) (frame_in s) ≡ SectionRead.Is x
+  old_accepted : accepted (header_of (drop 3 s)) (moved_read (command_read s)) (frame_in s) ≡ Ok x
   old_accepted = is_accepted s (frame_in s) (accepted (header_of (drop 3 s)) (moved_read (command_read s)) (frame_in s)) (sym old_frame) refl ∙ is
 
   -- the command lies where it lay
@@ -307,15 +309,15 @@ module _ (s loop : List ℕ) (x : Section) (is : section_of s ≡ SectionRead.Is
       ∙ ap (λ (v : View). record { command = v; descriptors = record { at = 16 + command_length s; len = length loop } }) (sym payload_is)
 
   new_section : section_of new
-      ≡ SectionRead.Is (record { header = x.header; command = x.command; descriptors = record { at = 16 + command_length s; len = length loop }; payload = x.payload })
+      ≡ Ok (record { header = x.header; command = x.command; descriptors = record { at = 16 + command_length s; len = length loop }; payload = x.payload })
   new_section =
       sym (is_accepted new (frame_in new) (accepted (header_of (drop 3 new)) (moved_read (command_read new)) (frame_in new)) (sym new_frame) refl)
-      ∙ ap₂ (λ (h : HeaderRead) (r : CommandRead). accepted h (moved_read r) (frame_in new)) header_kept command_same
+      ∙ ap₂ (λ (h : Option SpliceInfoHeader) (r : Result SpliceCommand CommandRefusal). accepted h (moved_read r) (frame_in new)) header_kept command_same
       ∙ accepted_with (header_of (drop 3 s)) (moved_read (command_read s)) (frame_in s) (frame_in new) x old_accepted
-      ∙ ap (λ (f : Frame). SectionRead.Is (record { header = x.header; command = x.command; descriptors = f.descriptors; payload = f.command })) frame_is
+      ∙ ap (λ (f : Frame). Ok (record { header = x.header; command = x.command; descriptors = f.descriptors; payload = f.command })) frame_is
 
   pub with_loop : (section_of (section_with s loop)
-      ≡ SectionRead.Is (record { header = x.header; command = x.command; descriptors = record { at = 16 + command_length s; len = length loop }; payload = x.payload }))
+      ≡ Ok (record { header = x.header; command = x.command; descriptors = record { at = 16 + command_length s; len = length loop }; payload = x.payload }))
       × (loop_bytes (section_with s loop) ≡ loop)
   unfolding new
   with_loop = (new_section, loop_is_lem)

@@ -21,11 +21,11 @@ use Rattle.section.proofs.Acceptance.{none_if_accepted}
 use Rattle.section.proofs.Framing.{number_of, extent_is}
 use Rattle.section.specs.Section.{command_length, loop_length, loop_bytes, section_of}
 use Rattle.section.specs.declared.Section.{Section}
-use Rattle.section.specs.declared.SectionRead.{SectionRead}
 use Rattle.table.proofs.Bits.{length_big_endian}
 use Rattle.table.proofs.Lists.{zero_one}
 use Rattle.table.specs.Bits.{big_endian}
 use Rattle.transport_packet.specs.Sections.{section_length, Right}
+use Rattle.std.proofs.Common.{Ok}
 
 abbrev run : List ℕ → ℕ → ℕ → List ℕ
 run s at n = take n (drop at s)
@@ -44,7 +44,7 @@ closed s loop = refl
 
 -- ---- a loop put in
 
-module _ (s loop : List ℕ) (x : Section) (is : section_of s ≡ SectionRead.Is x) (fits : length (section_with s loop) ≤ 4096) where
+module _ (s loop : List ℕ) (x : Section) (is : section_of s ≡ Ok x) (fits : length (section_with s loop) ≤ 4096) where
   r : List ℕ
   r = section_with s loop
 
@@ -162,7 +162,7 @@ run_three (a ∷ []) h = absurd (omega arith)
 run_three (a ∷ (b ∷ [])) h = absurd (omega arith)
 run_three (a ∷ (b ∷ (c ∷ t))) h = refl
 
-module _ (s : List ℕ) (x : Section) (is : section_of s ≡ SectionRead.Is x) (bytes : (j : ℕ) → get_or s j 0 < 256) where
+module _ (s : List ℕ) (x : Section) (is : section_of s ≡ Ok x) (bytes : (j : ℕ) → get_or s j 0 < 256) where
   mine : Framing s x
   mine = framing s x is
 

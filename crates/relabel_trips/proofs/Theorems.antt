@@ -10,7 +10,6 @@ use Rattle.relabel.specs.Relabel.{relabel_made}
 use Rattle.relabel_laws.specs.Identifiers.{identifiers_in}
 use Rattle.section.specs.Section.{section_of}
 use Rattle.section.specs.declared.Section.{Section}
-use Rattle.section.specs.declared.SectionRead.{SectionRead}
 use Rattle.canonical_form.specs.Section.{canonical_section}
 use Rattle.table.proofs.Bits.{bytes_all}
 use Rattle.table.specs.Writing.{made}
@@ -23,6 +22,7 @@ use Rattle.relabel_trips.proofs.ByByte as by_byte
 use Rattle.relabel_trips.proofs.Cuttings as cuttings
 use Rattle.relabel_trips.proofs.Rows as rows
 use Rattle.relabel_trips.proofs.Trips as trips
+use Rattle.std.proofs.Common.{Ok}
 
 -- ---- there and back
 
@@ -57,7 +57,7 @@ pub what_is_written_was_named : (s : List ℕ) (offset part k : ℕ) (new r : Li
 what_is_written_was_named = trips.was_named
 
 -- Every canonical section has it.
-pub canonical_is_right : (s : List ℕ) (x : Section) → ((j : ℕ) → get_or s j 0 < 256) → section_of s ≡ SectionRead.Is x → canonical_section s ≡ true → Right s
+pub canonical_is_right : (s : List ℕ) (x : Section) → ((j : ℕ) → get_or s j 0 < 256) → section_of s ≡ Ok x → canonical_section s ≡ true → Right s
 canonical_is_right s x bytes e c = (canonical_laid s x (bytes_all s bytes) e c).right
 
 -- ---- no other byte changes

@@ -22,7 +22,6 @@ use Rattle.relabel_section.specs.Frame.{section_with}
 use Rattle.relabel_upid.specs.Relabel.{upid_made}
 use Rattle.section.specs.Section.{command_length, loop_length, loop_bytes, section_of}
 use Rattle.section.specs.declared.Section.{Section}
-use Rattle.section.specs.declared.SectionRead.{SectionRead}
 use Rattle.table.specs.Writing.{made}
 use Rattle.transport_packet.specs.Sections.{Right}
 use Rattle.upid.specs.Private.{Accepted}
@@ -31,10 +30,11 @@ use Rattle.relabel_trips.specs.Named.{Named, type_at, identifier_at}
 use Rattle.relabel_trips.proofs.Frames.{twice, set_right, own_size, own, new_loop_short}
 use Rattle.relabel_trips.proofs.Loops.{pay_short, own_item_lem, pay_then_lem, found_then, again, fore_then, type_then_lem, upid_then_lem, post_then}
 use Rattle.relabel_trips.proofs.Upids.{was_there, same_upid, back_upid, type_back, type_same}
+use Rattle.std.proofs.Common.{Ok}
 
 -- ---- what is made, where all tests are met
 
-made_when : (s : List ℕ) (offset part k : ℕ) (new : List ℕ) (x : Section) (b : List ℕ) → section_of s ≡ SectionRead.Is x → found (loop_bytes s) offset ≡ true
+made_when : (s : List ℕ) (offset part k : ℕ) (new : List ℕ) (x : Section) (b : List ℕ) → section_of s ≡ Ok x → found (loop_bytes s) offset ≡ true
     → upid_made (type_in (payload_in s offset)) (upid_in (payload_in s offset)) part k new ≡ made b
     → length (payload_then s offset part k b) ≤ 250 → length (section_then s offset part k b) ≤ 4096
     → relabel_made s offset part k new ≡ made (section_then s offset part k b)
@@ -45,7 +45,7 @@ made_when s offset part k new x b e f u short fits =
 
 -- ---- the item that is there
 
-module _ (s : List ℕ) (offset : ℕ) (x : Section) (is : section_of s ≡ SectionRead.Is x) (there : found (loop_bytes s) offset ≡ true) (bytes : (j : ℕ) → get_or s j 0 < 256) where
+module _ (s : List ℕ) (offset : ℕ) (x : Section) (is : section_of s ≡ Ok x) (there : found (loop_bytes s) offset ≡ true) (bytes : (j : ℕ) → get_or s j 0 < 256) where
   abbrev pay : List ℕ
   pay = payload_in s offset
 

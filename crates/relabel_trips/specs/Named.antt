@@ -1,12 +1,11 @@
 -- One identifier of a section, by its item's offset and its number in the item's UPID: whether it is there, its type as it is written, and its bytes.
-use Rattle.std.specs.Prelude.{ℕ, zero, suc, ◌<◌, true, List, ◌≡◌, length}
+use Rattle.std.specs.Prelude.{ℕ, zero, suc, ◌<◌, true, List, ◌≡◌, length, Ok}
 use Rattle.relabel.specs.Relabel.{payload_in}
 use Rattle.relabel_found.specs.Found.{found, type_in, upid_in}
 use Rattle.relabel_upid.specs.Kept.{written_type}
 use Rattle.relabel_upid.specs.Relabel.{part_at}
 use Rattle.section.specs.Section.{loop_bytes, section_of}
 use Rattle.section.specs.declared.Section.{Section}
-use Rattle.section.specs.declared.SectionRead.{SectionRead}
 use Rattle.upid.specs.Cover.{bytes_of}
 use Rattle.upid.specs.Upid.{upid_of, parts_in}
 
@@ -30,7 +29,7 @@ identifier_within upid_type_number top (suc i) = bytes_of top (part_at (parts_in
 -- it is accepted, the item at the offset is a segmentation descriptor that is not cancelled, and its UPID has that part
 pub record Named (s : List ℕ) (offset part : ℕ) : Type 0 where
   pub old : Section
-  pub accepted : section_of s ≡ SectionRead.Is old
+  pub accepted : section_of s ≡ Ok old
   pub item : found (loop_bytes s) offset ≡ true
   pub has : HasPart (type_in (payload_in s offset)) (upid_in (payload_in s offset)) part
 

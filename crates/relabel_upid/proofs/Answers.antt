@@ -14,8 +14,6 @@ use Rattle.upid.specs.Cover.{Cut, bytes_of}
 use Rattle.upid.specs.Upid.{read_of, check_of, list_of, reported_of, upid_of, parts_in}
 use Rattle.upid.specs.Private.{Accepted}
 use Rattle.upid.specs.declared.Part.{Part}
-use Rattle.upid.specs.declared.UpidRead.{UpidRead}
-use Rattle.upid.specs.declared.UpidRead.TheVariants.{Fine, Refused}
 use Rattle.upid.proofs.Answers.{parts_of_mid, no_mid_no_parts, refused_no_parts, check_of_read}
 use Rattle.upid.proofs.Cutting.{after_head}
 use Rattle.upid.proofs.Walks.{check_mid, check_short}
@@ -25,6 +23,8 @@ use Rattle.relabel_upid.specs.Relabel.{instead, mended, spliced, part_at, replac
 use Rattle.relabel_upid.proofs.Holes.{level_at, start_at, inner, before, behind, list_filled, AcceptedBeside, AcceptedCut, accepted_filled, Found, find, prior, back, cut_filled, length_prior, length_filled}
 use Rattle.relabel_upid.proofs.Places.{spot, mend_prior, before_widened, behind_moved}
 use Rattle.relabel_upid.proofs.Told.{told_append, same_before, same_behind, reported_list, told_own}
+use Rattle.std.proofs.Common.{Ok, Err, Result}
+use Rattle.upid.specs.declared.Refusal.{Refusal}
 
 -- ---- the part that fills a hole, by its number
 
@@ -249,15 +249,15 @@ stays top i a hi =
 
 -- ---- what is made
 
-pub taken_accepted : (a : UpidRead) → taken a ≡ true → Accepted a
+pub taken_accepted : (a : Result ℕ Refusal) → taken a ≡ true → Accepted a
 unfolding taken
-taken_accepted (Fine k) e = tt
-taken_accepted (Refused r) e = let z : ◌≡◌ {A = ℕ} 0 1 = cc in absurd (omega arith)
+taken_accepted (Ok k) e = tt
+taken_accepted (Err r) e = let z : ◌≡◌ {A = ℕ} 0 1 = cc in absurd (omega arith)
 
-pub accepted_taken : (a : UpidRead) → Accepted a → taken a ≡ true
+pub accepted_taken : (a : Result ℕ Refusal) → Accepted a → taken a ≡ true
 unfolding taken
-accepted_taken (Fine k) h = refl
-accepted_taken (Refused r) h = absurd h
+accepted_taken (Ok k) h = refl
+accepted_taken (Err r) h = absurd h
 
 -- a MID whose i-th part can be replaced by an identifier of type k with these bytes
 pub record Able (upid_type_number : ℕ) (top : List ℕ) (i k : ℕ) (new : List ℕ) : Type 0 where
@@ -293,9 +293,9 @@ has_parts upid_type_number top i h = (go (eqb upid_type_number 13) refl, of_read
     go true e = eqb-true upid_type_number 13 e
     go false e = absurd (omega (arith, ap length (no_mid_no_parts upid_type_number top (eqb-false upid_type_number 13 e))))
 
-    of_read : (a : UpidRead) → check_of upid_type_number top ≡ a → Accepted (check_of upid_type_number top)
-    of_read (Fine q) e = rw e tt
-    of_read (Refused r) e = absurd (omega (arith, ap length (refused_no_parts upid_type_number top r e)))
+    of_read : (a : Result ℕ Refusal) → check_of upid_type_number top ≡ a → Accepted (check_of upid_type_number top)
+    of_read (Ok q) e = rw e tt
+    of_read (Err r) e = absurd (omega (arith, ap length (refused_no_parts upid_type_number top r e)))
 
 module _ (top : List ℕ) (i k : ℕ) (new : List ℕ) (a : Accepted (check_of 13 top)) (h : Able 13 top i k new) where
   ps_are : parts_in (upid_of 13 top) ≡ list_of 13 1 0 top

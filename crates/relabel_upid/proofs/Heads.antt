@@ -3,7 +3,7 @@
 --     first    from the MID's first byte on all its parts are ahead
 --     turn     the head at a place is that of the first part ahead, and from the next head on the others are
 --     done     behind the last byte none is
-use Prim.Native.Nat.{ℕ, zero, suc, ◌+◌, ◌-◌, ◌≤◌, ◌<◌}
+use Prim.Native.Nat.{ℕ, zero, suc, ◌+◌, ◌≤◌, ◌<◌}
 use mathlib.Core.Path.{◌≡◌, refl, sym, ap, subst, ◌∙◌}
 use mathlib.Core.Bool.{Bool, true, false}
 use mathlib.Core.List.{List, [], ◌∷◌, ◌++◌, append_assoc, append-nil}
@@ -16,12 +16,11 @@ use Rattle.table.specs.Bits.{pick}
 use Rattle.upid.specs.Private.{Accepted}
 use Rattle.upid.specs.Upid.{read_of, list_of}
 use Rattle.upid.specs.declared.Part.{Part}
-use Rattle.upid.specs.declared.UpidRead.{UpidRead}
 use Rattle.upid.specs.declared.Refusal.{Refusal}
-use Rattle.upid.specs.declared.UpidRead.TheVariants.{Refused}
 use Rattle.upid.proofs.Laws.{read_one, read_more, list_nil, list_more, then_both, accepted_mid, list_mid, list_plain, by_cases}
 use Rattle.upid.specs.Upid.{blank_part}
 use Rattle.relabel_upid.specs.Private.{heads, nth, next_head, Walkable, Headed}
+use Rattle.std.proofs.Common.{Err, Result}
 
 -- the bytes from the place `at` on have the heads of these parts, one behind the other or inside it
 pub data Rest : ℕ → List ℕ → List Part → Type 0 where
@@ -33,7 +32,7 @@ same : {at at₂ : ℕ} {b b₂ : List ℕ} {qs qs₂ : List Part} → at ≡ at
 same {at₂ = at₂} {b = b} {b₂ = b₂} {qs = qs} e f g r =
     subst (λ (x : List Part). Rest at₂ b₂ x) g (subst (λ (x : List ℕ). Rest at₂ x qs) f (subst (λ (x : ℕ). Rest x b qs) e r))
 
-fits : (t : Bool) (l n : ℕ) (r : Refusal) (y : UpidRead) → ltb n l ≡ t → Accepted (pick t (Refused r) y) → (l ≤ n) × Accepted y
+fits : (t : Bool) (l n : ℕ) (r : Refusal) (y : Result ℕ Refusal) → ltb n l ≡ t → Accepted (pick t (Err r) y) → (l ≤ n) × Accepted y
 fits true l n r y e a = absurd a
 fits false l n r y e a = (ltb-false n l e, a)
 
@@ -86,10 +85,6 @@ pub first : (s : List ℕ) → Walkable s → Rest 0 (drop 0 s) (heads s)
 first s w =
     same refl (append-nil s) (append-nil (heads s)) (joined (length s) 1 0 s [] [] (omega arith) w.accepted end)
 
--- before the walk all are ahead
-pub begun : (s : List ℕ) (i : ℕ) → Walkable s → Rest 0 (drop 0 s) (drop (i - i) (heads s))
-begun s i w = let z : 0 ≡ i - i = omega arith in same refl refl (ap (λ (j : ℕ). drop j (heads s)) z) (first s w)
-
 pub record Turn (s : List ℕ) (at : ℕ) (ps : List Part) : Type 0 where
   pub q : Part
   pub qs : List Part
@@ -140,56 +135,44 @@ next_mid s at e = rw (eq-eqb (get_or s at 0) 13 e)
 pub next_plain : (s : List ℕ) (at l : ℕ) → (get_or s at 0 ≡ 13 → ⊥) → l ≡ get_or s (at + 1) 0 → at + 2 + l ≡ next_head s at
 next_plain s at l e f = rw (ne_eqb (get_or s at 0) 13 e, f)
 
--- ---- the walk, with so many parts ahead of the i-th
+-- ---- the walk, with so many parts behind
 
 next_bounds : (t : Bool) (at l : ℕ) → (at + 2 ≤ pick t (at + 2) (at + 2 + l)) × (pick t (at + 2) (at + 2 + l) ≤ at + 2 + l)
 next_bounds true at l = (omega arith, omega arith)
 next_bounds false at l = (omega arith, omega arith)
 
-module _ (s : List ℕ) (i ahead at : ℕ) (few : ahead ≤ i) (r : Rest at (drop at s) (drop (i - ahead) (heads s))) where
-  pub none_left : length s ≤ at → Headed s i at
-  none_left h =
-      let e : drop (i - ahead) (heads s) ≡ [] = done s at _ r h in
-      record {
-        none = λ h. omega (arith, length-drop (i - ahead) (heads s), ap length e);
-        some = λ l. absurd (omega arith);
-      }
+module _ (s : List ℕ) (behind at : ℕ) (r : Rest at (drop at s) (drop behind (heads s))) where
+  all_behind : length s ≤ at → length (heads s) ≤ behind
+  all_behind h = omega (arith, length-drop behind (heads s), ap length (done s at _ r h))
 
   -- while one is ahead, the walk is not at the end
-  pub not_yet : i < length (heads s) → at < length s
-  not_yet h = by_cases at (length s) (λ l. l) (λ l. absurd (omega (arith, length-drop (i - ahead) (heads s), ap length (done s at _ r l))))
+  pub not_yet : behind < length (heads s) → at < length s
+  not_yet h = by_cases at (length s) (λ l. l) (λ l. absurd (omega (arith, all_behind l)))
+
+  pub headed_past : (i : ℕ) → behind ≤ i → length s ≤ at → Headed s i at
+  headed_past i b h = record { none = λ h. omega (arith, all_behind h); some = λ l. absurd (omega arith) }
 
   module _ (h : at < length s) where
-    abbrev here : Turn s at (drop (i - ahead) (heads s))
+    abbrev here : Turn s at (drop behind (heads s))
     here = turn s at _ r h
 
     pub complete : (at + 2 + get_or s (at + 1) 0 ≤ length s) × (at + 2 ≤ next_head s at) × (next_head s at ≤ at + 2 + get_or s (at + 1) 0)
     complete = let n = next_bounds (eqb (get_or s at 0) 13) at (get_or s (at + 1) 0) in (here.inside, n.0, n.1)
 
-    pub one_is : nth s (i - ahead) ≡ here.q
+    one_is : nth s behind ≡ here.q
     one_is =
-        let z : i - ahead ≡ i - ahead + 0 = omega arith in
-        ap (λ (j : ℕ). get_or (heads s) j blank_part) z ∙ sym (get_or-drop (i - ahead) (heads s) 0 blank_part) ∙ ap (λ (ps : List Part). get_or ps 0 blank_part) here.is
+        let z : behind ≡ behind + 0 = omega arith in
+        ap (λ (j : ℕ). get_or (heads s) j blank_part) z ∙ sym (get_or-drop behind (heads s) 0 blank_part) ∙ ap (λ (ps : List Part). get_or ps 0 blank_part) here.is
 
-    pub told : ((nth s (i - ahead)).start ≡ at + 2) × ((nth s (i - ahead)).len ≡ get_or s (at + 1) 0) × (i - ahead < length (heads s))
+    pub told : ((nth s behind).start ≡ at + 2) × ((nth s behind).len ≡ get_or s (at + 1) 0) × (behind < length (heads s))
     told = (
       ap (λ (q : Part). q.start) one_is ∙ here.starts,
       ap (λ (q : Part). q.len) one_is ∙ here.has,
-      omega (arith, length-drop (i - ahead) (heads s), ap length here.is),
+      omega (arith, length-drop behind (heads s), ap length here.is),
     )
 
-    pub found : ahead ≡ 0 → Headed s i at
-    found z =
-        let j : i - ahead ≡ i = omega arith in
-        let t = subst (λ (j : ℕ). ((nth s j).start ≡ at + 2) × ((nth s j).len ≡ get_or s (at + 1) 0) × (j < length (heads s))) j told in
-        record {
-          none = λ l. absurd (omega arith);
-          some = λ l. (t.2, t.0, t.1);
-        }
+    pub onward : (m : ℕ) → m ≡ next_head s at → Rest m (drop m s) (drop (behind + 1) (heads s))
+    onward m e = same (sym e) (ap (λ (j : ℕ). drop j s) (sym e)) (sym (ap (drop 1) here.is) ∙ drop-drop 1 behind (heads s)) here.rest
 
-    pub onward : (m : ℕ) → m ≡ next_head s at → 0 < ahead → Rest m (drop m s) (drop (i - (ahead - 1)) (heads s))
-    onward m e some =
-        let z : i - ahead + 1 ≡ i - (ahead - 1) = omega arith in
-        let f : here.qs ≡ drop (i - (ahead - 1)) (heads s) =
-        sym (ap (drop 1) here.is) ∙ drop-drop 1 (i - ahead) (heads s) ∙ ap (λ (j : ℕ). drop j (heads s)) z in
-        same (sym e) (ap (λ (j : ℕ). drop j s) (sym e)) f here.rest
+  pub headed : Headed s behind at
+  headed = record { none = λ h. all_behind h; some = λ h. (let t = told h in (t.2, t.0, t.1)) }

@@ -15,8 +15,6 @@ use Rattle.upid.specs.Cover.{All, none, more, Cut}
 use Rattle.upid.specs.Upid.{read_of, check_of, list_of, upid_of, parts_in, blank_part}
 use Rattle.upid.specs.Private.{Accepted}
 use Rattle.upid.specs.declared.Part.{Part}
-use Rattle.upid.specs.declared.UpidRead.{UpidRead}
-use Rattle.upid.specs.declared.UpidRead.TheVariants.{Fine, Refused}
 use Rattle.upid.proofs.Answers.{parts_of_mid}
 use Rattle.upid.proofs.Laws.{by_cases}
 use Rattle.upid.proofs.Tree.{all_append, all_map}
@@ -29,6 +27,8 @@ use Rattle.relabel_upid.proofs.Holes.{start_at, recorded, before, AcceptedBeside
 use Rattle.relabel_upid.proofs.Places.{lies_in_lem, spot}
 use Rattle.relabel_upid.proofs.Heads.{Rest, not_yet, told, complete, onward}
 use Rattle.relabel_upid.proofs.Turns.{mends_one, mended_on, mended_off, mended_length, mended_append, top_none, top_refused, part_none, part_long, part_unfit, part_made_lem}
+use Rattle.std.proofs.Common.{Ok, Err, Result}
+use Rattle.upid.specs.declared.Refusal.{Refusal}
 
 -- ---- where the parts before a part lie
 
@@ -101,25 +101,25 @@ mendable top i head end old new target later s eo ee e =
     }
 
 -- ---- a turn of the walk that mends the heads
-module _ (s : List ℕ) (i end old n ahead at : ℕ) (target₀ : List ℕ) (m : Mendable s i end old n target₀) (few : ahead ≤ i) (some : 0 < ahead)
-    (r : Rest at (drop at s) (drop (i - ahead) (heads s))) where
+module _ (s : List ℕ) (i end old n behind at : ℕ) (target₀ : List ℕ) (m : Mendable s i end old n target₀) (more : behind < i)
+    (r : Rest at (drop at s) (drop behind (heads s))) where
   not_done : at < length s
-  not_done = not_yet s i ahead at few r m.there
+  not_done = not_yet s behind at r (omega (arith, m.there))
 
   abbrev one : Part
-  one = nth s (i - ahead)
+  one = nth s behind
 
-  one_told : (one.start ≡ at + 2) × (one.len ≡ get_or s (at + 1) 0) × (i - ahead < length (heads s))
-  one_told = told s i ahead at few r not_done
+  one_told : (one.start ≡ at + 2) × (one.len ≡ get_or s (at + 1) 0) × (behind < length (heads s))
+  one_told = told s behind at r not_done
 
   one_mends : Mends (nth s i) n target₀ one
-  one_mends = mends_one (heads s) i (i - ahead) (nth s i) n (omega arith) (omega (arith, m.there)) target₀ m.each
+  one_mends = mends_one (heads s) i behind (nth s i) n (omega arith) (omega (arith, m.there)) target₀ m.each
 
   pub head_complete : (at + 2 + get_or s (at + 1) 0 ≤ length s) × (at + 2 ≤ length target₀)
-  head_complete = ((complete s i ahead at few r not_done).0, omega (arith, one_mends.before, one_told.0))
+  head_complete = ((complete s behind at r not_done).0, omega (arith, one_mends.before, one_told.0))
 
-  pub next_ahead : (to : ℕ) → to ≡ next_head s at → Rest to (drop to s) (drop (i - (ahead - 1)) (heads s))
-  next_ahead to e = onward s i ahead at few r not_done to e some
+  pub next_ahead : (to : ℕ) → to ≡ next_head s at → Rest to (drop to s) (drop (behind + 1) (heads s))
+  next_ahead to e = onward s behind at r not_done to e
 
   module _ (l : ℕ) (el : l ≡ get_or s (at + 1) 0) where
     is_around : end ≤ at + 2 + l → around (nth s i) one ≡ true
@@ -135,23 +135,18 @@ module _ (s : List ℕ) (i end old n ahead at : ℕ) (target₀ : List ℕ) (m :
         let x = one_mends.counts (is_around t) in
         (omega (arith, x.0, m.has, one_told.1), omega (arith, x.1, m.has, one_told.1))
 
-    turned_to : i - (ahead - 1) ≡ i - ahead + 1
-    turned_to = omega arith
-
     pub mends_it : (target later : List ℕ) (v : ℕ) → end ≤ at + 2 + l → v ≡ l - old + n → later ≡ set target (at + 1) v
-        → mended (nth s i) n (drop (i - (ahead - 1)) (take i (heads s))) later ≡ mended (nth s i) n (drop (i - ahead) (take i (heads s))) target
+        → mended (nth s i) n (drop (behind + 1) (take i (heads s))) later ≡ mended (nth s i) n (drop behind (take i (heads s))) target
     mends_it target later v t ev e =
         let z : at + 1 ≡ at + 2 - 1 = omega arith in
         let w : l - old + n ≡ instead (nth s i) n one.len = omega (arith, m.has, one_told.1) in
-        ap (λ (x : ℕ). mended (nth s i) n (drop x (take i (heads s))) later) turned_to
-        ∙ mended_on (heads s) i (i - ahead) (nth s i) n (omega arith) (omega (arith, m.there)) target later v (at + 2) (is_around t) (sym one_told.0) (ev ∙ w)
+        mended_on (heads s) i behind (nth s i) n (omega arith) (omega (arith, m.there)) target later v (at + 2) (is_around t) (sym one_told.0) (ev ∙ w)
         (e ∙ ap (λ (x : ℕ). set target x v) z)
 
     pub keeps_it : (target later : List ℕ) → at + 2 + l < end → later ≡ target
-        → mended (nth s i) n (drop (i - (ahead - 1)) (take i (heads s))) later ≡ mended (nth s i) n (drop (i - ahead) (take i (heads s))) target
+        → mended (nth s i) n (drop (behind + 1) (take i (heads s))) later ≡ mended (nth s i) n (drop behind (take i (heads s))) target
     keeps_it target later t e =
-        ap (λ (x : ℕ). mended (nth s i) n (drop x (take i (heads s))) later) turned_to
-        ∙ mended_off (heads s) i (i - ahead) (nth s i) n (omega arith) (omega (arith, m.there)) target later (not_around t) e
+        mended_off (heads s) i behind (nth s i) n (omega arith) (omega (arith, m.there)) target later (not_around t) e
 
 -- ---- the stores
 
@@ -226,10 +221,10 @@ spliced_size top qs p k new two within =
 
 -- ---- what is made of a part
 
-never : (r : UpidRead) → Accepted r → taken r ≡ false → ⊥
+never : (r : Result ℕ Refusal) → Accepted r → taken r ≡ false → ⊥
 unfolding taken
-never (Fine k) a e = zero_one cc
-never (Refused r) a e = a
+never (Ok k) a e = zero_one cc
+never (Err r) a e = a
 
 module _ (upid_type_number k i : ℕ) (top new : List ℕ) where
   -- only a MID has parts, and only one that is accepted

@@ -17,33 +17,33 @@ use Rattle.upid.specs.Cover.{All, none, more}
 use Rattle.upid.specs.Upid.{read_of, check_of, upid_of, parts_in, blank_part, ◌then◌}
 use Rattle.upid.specs.Private.{Accepted}
 use Rattle.upid.specs.declared.Part.{Part}
-use Rattle.upid.specs.declared.UpidRead.{UpidRead}
-use Rattle.upid.specs.declared.UpidRead.TheVariants.{Fine, Refused}
 use Rattle.upid.proofs.Answers.{anywhere}
 use Rattle.upid.proofs.Laws.{read_nil, read_more}
 use Rattle.relabel_upid.specs.Relabel.{instead, around, mended, part_at, replaced_in, taken, top_made, part_made, up_to}
 use Rattle.relabel_upid.specs.Private.{Mends}
+use Rattle.std.proofs.Common.{Ok, Err, Result}
+use Rattle.upid.specs.declared.Refusal.{Refusal}
 
 -- ---- whether an identifier is taken
 
-same_taken : (a b : UpidRead) → (Accepted a → Accepted b) → (Accepted b → Accepted a) → taken a ≡ taken b
+same_taken : (a b : Result ℕ Refusal) → (Accepted a → Accepted b) → (Accepted b → Accepted a) → taken a ≡ taken b
 unfolding taken
-same_taken (Fine k) (Fine l) f g = refl
-same_taken (Fine k) (Refused r) f g = absurd (f tt)
-same_taken (Refused r) (Fine k) f g = absurd (g tt)
-same_taken (Refused r) (Refused q) f g = refl
+same_taken (Ok k) (Ok l) f g = refl
+same_taken (Ok k) (Err r) f g = absurd (f tt)
+same_taken (Err r) (Ok k) f g = absurd (g tt)
+same_taken (Err r) (Err q) f g = refl
 
-then_fine : (a : UpidRead) (k : ℕ) → taken (a then Fine k) ≡ taken a
+then_fine : (a : Result ℕ Refusal) (k : ℕ) → taken (a then Ok k) ≡ taken a
 unfolding taken ◌then◌
-then_fine (Fine q) k = refl
-then_fine (Refused r) k = refl
+then_fine (Ok q) k = refl
+then_fine (Err r) k = refl
 
 -- an empty part, read as the only part of a MID
 pub fine_alone : (k : ℕ) → taken (check_of 13 (k ∷ (0 ∷ []))) ≡ taken (read_of k 0 [])
 unfolding check_of
 fine_alone k =
     ap taken (read_more 0 k 0 [])
-    ∙ ap (λ (r : UpidRead). taken (read_of k 2 [] then r)) (read_nil 2)
+    ∙ ap (λ (r : Result ℕ Refusal). taken (read_of k 2 [] then r)) (read_nil 2)
     ∙ then_fine (read_of k 2 []) 13
     ∙ same_taken (read_of k 2 []) (read_of k 0 []) (anywhere k 2 0 []) (anywhere k 0 2 [])
 

@@ -3,11 +3,8 @@
 // as its date. The file `stdout` is what the host's own reader and writer say (host/daterange gate).
 #![tactic(auto)]
 
-ghost use Rattle.std.specs.Prelude.{◌≤◌, length};
-
-use bit_stores::Written;
 use daterange::write_daterange;
-use daterange_line::{Cue, Read, Reading, read_line};
+use daterange_line::{Cue, Reading, read_line};
 use read_input::read_full;
 use std::io;
 use table::lent::view;
@@ -31,13 +28,8 @@ fn print_name(rt: &impl Print, n: u64, cue: Cue) -> io::Result<()> {
 }
 
 fn print_digits(rt: &impl Print, bytes: &[u8], size: usize) -> io::Result<()> {
-    let mut i: usize = 0;
-    while i < size {
-        if i < bytes.len() {
-            let byte = bytes[i];
-            print!(rt; "{byte:02x}")?;
-        }
-        i += 1;
+    for byte in bytes.iter().take(size) {
+        print!(rt; "{byte:02x}")?;
     }
     Ok(())
 }
@@ -58,8 +50,8 @@ fn write_one(
     out: &mut [u8],
 ) -> io::Result<()> {
     match write_daterange(section, id, date, out) {
-        Written::Refused(r) => refused(rt, n, " not written ", r),
-        Written::Wrote(size) => {
+        Err(r) => refused(rt, n, " not written ", r),
+        Ok(size) => {
             start(rt, n, " line ")?;
             print_first(rt, out, size)
         }
@@ -89,14 +81,11 @@ fn print_reading(
     x: Reading,
     buffer: &[u8],
 ) -> io::Result<()> {
-    let id = x.id;
-    let date = x.date;
-    let cue = x.cue;
-    print_name(rt, n, cue)?;
+    print_name(rt, n, x.cue)?;
     print!(rt; " id ")?;
-    rt.write_all(view(line, id))?;
+    rt.write_all(view(line, x.id))?;
     print!(rt; " date ")?;
-    rt.write_all(view(line, date))?;
+    rt.write_all(view(line, x.date))?;
     print!(rt; " section ")?;
     print_digits(rt, buffer, x.len)?;
     println!(rt)
@@ -112,15 +101,21 @@ fn read_one(
     out: &mut [u8],
 ) -> io::Result<usize> {
     match read_line(line, buffer) {
-        Read::Refused(r) => {
-            refused(rt, n, " refused ", r)?;
+        Err(r) => {
+            refused(rt, n, " refused ", r.number())?;
             Ok(held)
         }
-        Read::Is(x) => {
-            let id = x.id;
-            let date = x.date;
+        Ok(x) => {
             print_reading(rt, n, line, x, buffer)?;
-            write_held(rt, n, buffer, x.len, view(line, id), view(line, date), out)?;
+            write_held(
+                rt,
+                n,
+                buffer,
+                x.len,
+                view(line, x.id),
+                view(line, x.date),
+                out,
+            )?;
             Ok(x.len)
         }
     }
@@ -134,53 +129,25 @@ fn one(
     buffer: &mut [u8],
     out: &mut [u8],
 ) -> io::Result<usize> {
-    if line.len() == 0 {
-        return Ok(held);
-    }
-    let first = line[0];
-    if first == 0x2B {
-        write_held(
-            rt,
-            n,
-            buffer,
-            held,
-            &line[1..],
-            b"2026-01-01T00:00:00Z",
-            out,
-        )?;
-        return Ok(held);
-    }
-    if first == 0x2D {
-        write_held(rt, n, buffer, held, b"1", &line[1..], out)?;
-        return Ok(held);
-    }
-    read_one(rt, n, line, held, buffer, out)
-}
-
-// Where the line ends that begins at a place.
-fn line_end(text: &[u8], at: usize) -> usize
-    requires { at ≤ length text.now }
-    ensures { (at ≤ result) × (result ≤ length text.now) }
-{
-    let mut i = at;
-    while i < text.len() {
-        if text[i] == 0x0A {
-            return i;
+    match line {
+        [] => Ok(held),
+        [b'+', id @ ..] => {
+            write_held(rt, n, buffer, held, id, b"2026-01-01T00:00:00Z", out)?;
+            Ok(held)
         }
-        i += 1;
+        [b'-', date @ ..] => {
+            write_held(rt, n, buffer, held, b"1", date, out)?;
+            Ok(held)
+        }
+        _ => read_one(rt, n, line, held, buffer, out),
     }
-    i
 }
 
 fn lines(rt: &impl Print, text: &[u8], buffer: &mut [u8], out: &mut [u8]) -> io::Result<()> {
-    let mut at: usize = 0;
-    let mut n: u64 = 1;
     let mut held: usize = 0;
-    while at < text.len() {
-        let end = line_end(text, at);
-        held = one(rt, n, &text[at..end], held, buffer, out)?;
-        at = end + 1;
-        n += 1;
+    for (i, line) in text.split_inclusive(|c| *c == b'\n').enumerate() {
+        let line = line.strip_suffix(b"\n").unwrap_or(line);
+        held = one(rt, i as u64 + 1, line, held, buffer, out)?;
     }
     Ok(())
 }

@@ -7,83 +7,71 @@ ghost use Rattle.std.specs.Prelude.{◌<◌};
 use command::SpliceCommand;
 use command::insert::{InsertDetail, SpliceDetail, SpliceInsert, SpliceMode};
 use read_input::read_full;
-use section::{Section, SectionRead, read_section};
+use section::{Section, read_section};
 use splice_time::SpliceTime;
-use splice_time::break_duration::Break;
 use std::io;
 
-// A label and its number.
-fn item(rt: &impl Print, label: &str, number: u64) -> io::Result<()> {
-    print!(rt; "{label}{number}")
-}
-
-fn word(rt: &impl Print, command: SpliceCommand) -> io::Result<()> {
+fn word(command: SpliceCommand) -> &'static str {
     match command {
-        SpliceCommand::SpliceNull => print!(rt; "null"),
-        SpliceCommand::SpliceInsert(_) => print!(rt; "insert"),
-        SpliceCommand::TimeSignal(_) => print!(rt; "time_signal"),
-        SpliceCommand::BandwidthReservation => print!(rt; "bandwidth_reservation"),
-        SpliceCommand::PrivateCommand(_) => print!(rt; "private"),
+        SpliceCommand::SpliceNull => "null",
+        SpliceCommand::SpliceInsert(_) => "insert",
+        SpliceCommand::TimeSignal(_) => "time_signal",
+        SpliceCommand::BandwidthReservation => "bandwidth_reservation",
+        SpliceCommand::PrivateCommand(_) => "private",
     }
 }
 
 // A time if one is specified.
 fn time(rt: &impl Print, t: SpliceTime) -> io::Result<()> {
     if let SpliceTime::At(ticks) = t {
-        item(rt, ";time=", ticks)?;
+        print!(rt; ";time={ticks}")?;
     }
     Ok(())
 }
 
 // What is not cancelled.
-fn active(rt: &impl Print, event: u64, x: InsertDetail) -> io::Result<()> {
-    let mode = x.splice_mode;
-    match mode {
+fn active(rt: &impl Print, event: u32, x: InsertDetail) -> io::Result<()> {
+    match x.splice_mode {
         SpliceMode::Program(t) => time(rt, t)?,
-        SpliceMode::Components(n) => item(rt, ";components=", n as u64)?,
+        SpliceMode::Components(n) => print!(rt; ";components={n}")?,
     }
-    item(rt, ";event=", event)?;
-    let out = x.network_indicator;
-    item(rt, ";out=", out.flag() as u64)?;
-    let duration = x.duration;
-    if let Break::Lasts(d) = duration {
-        item(rt, ";duration=", d.duration)?;
+    print!(rt; ";event={event};out={}", u8::from(x.network_indicator))?;
+    if let Some(d) = x.duration {
+        print!(rt; ";duration={}", d.duration)?;
     }
     Ok(())
 }
 
 fn insert(rt: &impl Print, i: SpliceInsert) -> io::Result<()> {
-    let event = i.splice_event_id as u64;
-    let detail = i.splice_detail;
-    match detail {
-        SpliceDetail::Cancel => item(rt, ";cancelled=", event),
+    let event = i.splice_event_id;
+    match i.splice_detail {
+        SpliceDetail::Cancel => print!(rt; ";cancelled={event}"),
         SpliceDetail::Insert(x) => active(rt, event, x),
     }
 }
 
 fn accepted(rt: &impl Print, s: Section) -> io::Result<()> {
-    print!(rt; "command=")?;
-    let command = s.command;
-    word(rt, command)?;
-    item(rt, ";adjustment=", s.header.pts_adjustment)?;
-    item(rt, ";tier=", s.header.tier as u64)?;
-    match command {
+    let word = word(s.command);
+    print!(rt; "command={word};adjustment={}", s.header.pts_adjustment)?;
+    print!(rt; ";tier={}", s.header.tier)?;
+    match s.command {
         SpliceCommand::TimeSignal(t) => time(rt, t)?,
         SpliceCommand::SpliceInsert(i) => insert(rt, i)?,
         _ => {}
     }
-    item(rt, ";loop=", s.descriptors.at as u64)?;
-    item(rt, ":", s.descriptors.len as u64)
+    print!(rt; ";loop={}:{}", s.descriptors.at, s.descriptors.len)
 }
 
 fn report(rt: &impl Print, bytes: &[u8]) -> io::Result<()> {
     match read_section(bytes) {
-        SectionRead::Is(s) => accepted(rt, s)?,
-        SectionRead::Refused(r) => item(rt, "refused ", r.number() as u64)?,
+        Ok(s) => accepted(rt, s)?,
+        Err(r) => print!(rt; "refused {}", r.number())?,
     }
     println!(rt)
 }
 
+// What is no digit counts as 0, a small letter too, which `to_digit` takes for one.
+// `run_crc` and `run_vectors` have the same: one of all three would be a library's, whose definition, theorem and edits are longer than they are.
 fn digit(c: u8) -> u8
     ensures { result < 16 }
 {
@@ -94,22 +82,17 @@ fn digit(c: u8) -> u8
     }
 }
 
-// Reports the section of each line.
+// Reports the section of each line that has an end.
 fn lines(rt: &impl Print, text: &[u8]) -> io::Result<()> {
     let mut section = [0u8; 4096];
-    let mut digits: usize = 0;
-    let mut i: usize = 0;
-    while i < text.len() {
-        if text[i] == b'\n' {
-            let bytes = digits / 2;
+    for line in text.split_inclusive(|c| *c == b'\n') {
+        if let Some((b'\n', digits)) = line.split_last() {
+            let bytes = (digits.len() / 2).min(section.len());
+            for (byte, pair) in section.iter_mut().zip(digits.chunks_exact(2)) {
+                *byte = digit(pair[0]) * 16 + digit(pair[1]);
+            }
             report(rt, &section[..bytes])?;
-            digits = 0;
-        } else if digits < 8192 {
-            let place = digits / 2;
-            section[place] = section[place] % 16 * 16 + digit(text[i]);
-            digits += 1;
         }
-        i += 1;
     }
     Ok(())
 }

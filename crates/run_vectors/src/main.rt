@@ -7,11 +7,8 @@
 ghost use Rattle.std.specs.Prelude.{◌<◌};
 
 use read_input::read_full;
-use section::{SectionRead, loop_of, read_section};
+use section::{loop_of, read_section};
 use std::io;
-use table::View;
-use table::lent::view;
-use table::numbers::byte;
 
 mod commands;
 mod descriptors;
@@ -21,12 +18,8 @@ mod upids;
 // Header and command in one line, then a line for each item of the loop.
 fn section(rt: &impl Print, s: &[u8]) -> io::Result<()> {
     match read_section(s) {
-        SectionRead::Refused(r) => {
-            print!(rt; "refused")?;
-            say::value(rt, r.number() as u64)?;
-            println!(rt)
-        }
-        SectionRead::Is(x) => {
+        Err(r) => println!(rt; "refused {}", r.number()),
+        Ok(x) => {
             let header = x.header;
             let command = x.command;
             commands::header(rt, header)?;
@@ -38,25 +31,16 @@ fn section(rt: &impl Print, s: &[u8]) -> io::Result<()> {
 }
 
 fn report(rt: &impl Print, input: &[u8]) -> io::Result<()> {
-    let rest = view(input, after(input, 1));
-    match byte(input, 0) {
-        1 => section(rt, rest),
-        2 => descriptors::items(rt, rest),
-        _ => upids::upid(rt, byte(input, 1), view(input, after(input, 2))),
+    match input {
+        [1, rest @ ..] => section(rt, rest),
+        [2, rest @ ..] => descriptors::items(rt, rest),
+        [_, upid_type, rest @ ..] => upids::upid(rt, *upid_type, rest),
+        _ => upids::upid(rt, 0, &[]),
     }
 }
 
-// All bytes but the first few.
-fn after(input: &[u8], n: usize) -> View {
-    if input.len() < n {
-        return View { at: 0, len: 0 };
-    }
-    View {
-        at: n,
-        len: input.len() - n,
-    }
-}
-
+// What is no digit counts as 0, a small letter too, which `to_digit` takes for one.
+// `run_crc` and `run_samples` have the same: one of all three would be a library's, whose definition, theorem and edits are longer than they are.
 fn digit(c: u8) -> u8
     ensures { result < 16 }
 {
@@ -67,22 +51,17 @@ fn digit(c: u8) -> u8
     }
 }
 
-// Reports the input of each line: of a section, a byte more than it may have.
+// Reports the input of each line that has an end: of a section, a byte more than it may have.
 fn lines(rt: &impl Print, text: &[u8]) -> io::Result<()> {
     let mut input = [0u8; 4098];
-    let mut digits: usize = 0;
-    let mut i: usize = 0;
-    while i < text.len() {
-        if text[i] == b'\n' {
-            let bytes = digits / 2;
+    for line in text.split_inclusive(|c| *c == b'\n') {
+        if let Some((b'\n', digits)) = line.split_last() {
+            let bytes = (digits.len() / 2).min(input.len());
+            for (byte, pair) in input.iter_mut().zip(digits.chunks_exact(2)) {
+                *byte = digit(pair[0]) * 16 + digit(pair[1]);
+            }
             report(rt, &input[..bytes])?;
-            digits = 0;
-        } else if digits < 8196 {
-            let place = digits / 2;
-            input[place] = input[place] % 16 * 16 + digit(text[i]);
-            digits += 1;
         }
-        i += 1;
     }
     Ok(())
 }

@@ -26,11 +26,11 @@ use c_section::components::{FlatInsertComponents, flat_insert_components};
 use c_section::headers::{FlatAdjusted, FlatHeader, flat_adjusted, read_flat_header};
 use c_section::sections::{FlatSection, flat_parts, no_section};
 use command::components::read_components;
-use command::{CommandRead, SpliceCommand, read_command};
+use command::{CommandRefusal, SpliceCommand, read_command};
 use crc::crc32;
 use descriptor_loop::iteration::step;
 use descriptor_loop::reading::read_item;
-use section::{COMMAND_AT, COMMAND_TYPE_AT, FrameRead, Refusal, read_command_part, read_frame};
+use section::{COMMAND_AT, COMMAND_TYPE_AT, Refusal, read_command_part, read_frame};
 use splice_time::{SpliceTime, adjusted_time};
 use upid::read_upid;
 
@@ -70,14 +70,14 @@ pub extern "C" fn scte35_read_section(section: &[u8], at: usize) -> FlatSection
 {
     let t = rest(section, at);
     let frame = match read_frame(t) {
-        FrameRead::Is(f) => f,
-        FrameRead::Refused(r) => return no_section(r),
+        Ok(f) => f,
+        Err(r) => return no_section(r),
     };
     let header = read_flat_header(&t[3..]);
     let payload = frame.command;
     let end = COMMAND_AT + payload.len;
     match read_command_part(t[COMMAND_TYPE_AT], &t[COMMAND_AT..end]) {
-        CommandRead::Is(command) => match command {
+        Ok(command) => match command {
             SpliceCommand::SpliceNull => return flat_parts(
                 header,
                 SpliceCommand::SpliceNull,
@@ -104,8 +104,8 @@ pub extern "C" fn scte35_read_section(section: &[u8], at: usize) -> FlatSection
                 frame,
             ),
         },
-        CommandRead::UnknownType => return no_section(Refusal::UnknownCommand),
-        CommandRead::Malformed => return no_section(Refusal::MalformedCommand),
+        Err(CommandRefusal::UnknownType) => return no_section(Refusal::UnknownCommand),
+        Err(CommandRefusal::Malformed) => return no_section(Refusal::MalformedCommand),
     }
 }
 

@@ -9,9 +9,7 @@ use lib.ListN.{length, get_or, drop, length-drop}
 use borrow.Author.Tests.{ltb-false}
 use Rattle.command.specs.Command as command
 use Rattle.command.specs.Command.{command_of}
-use Rattle.command.specs.declared.CommandRead.{CommandRead}
 use Rattle.header.specs.Header.{header_of}
-use Rattle.header.specs.declared.header.HeaderRead.{HeaderRead}
 use Rattle.header.specs.declared.header.SpliceInfoHeader.{SpliceInfoHeader}
 use Rattle.header.proofs.Headers.{header_there}
 use Rattle.crc.specs.Crc.{crc_of}
@@ -19,30 +17,31 @@ use Rattle.table.specs.Bits.{pick, bits_of, field}
 use Rattle.table.proofs.Lists.{zero_one}
 use Rattle.section.specs.Section.{unknown_command, malformed_command, conditions, first, None, command_length, room_after, loop_length, command_type, command_bytes, frame_in, frame_of, moved_read, accepted, through, section_of, number_of}
 use Rattle.section.specs.declared.Frame.{Frame}
-use Rattle.section.specs.declared.FrameRead.{FrameRead}
 use Rattle.section.specs.declared.Refusal.{Refusal}
 use Rattle.section.specs.declared.Section.{Section}
-use Rattle.section.specs.declared.SectionRead.{SectionRead}
+use Rattle.std.proofs.Common.{Ok, Err, Some, Option, Result}
+use Rattle.command.specs.declared.SpliceCommand.{SpliceCommand}
+use Rattle.command.specs.declared.CommandRefusal.{CommandRefusal}
 
 -- ---- the first refusal that applies
-last : (r : CommandRead) (h : SpliceInfoHeader) (v : Frame) → number_of (accepted (HeaderRead.Header h) (moved_read r) v) ≡ first 10 (eqb (command.number_of r) 10 ∷ eqb (command.number_of r) 11 ∷ [])
+last : (r : Result SpliceCommand CommandRefusal) (h : SpliceInfoHeader) (v : Frame) → number_of (accepted (Some h) (moved_read r) v) ≡ first 10 (eqb (command.number_of r) 10 ∷ eqb (command.number_of r) 11 ∷ [])
 unfolding number_of accepted moved_read
-last (CommandRead.Is c) h v = refl
-last CommandRead.UnknownType h v = refl
-last CommandRead.Malformed h v = refl
+last (Ok c) h v = refl
+last (Err CommandRefusal.UnknownType) h v = refl
+last (Err CommandRefusal.Malformed) h v = refl
 
-chain : (b₁ b₂ b₃ b₄ b₅ b₆ b₇ b₈ b₉ : Bool) (h : HeaderRead) (r : CommandRead) (v : Frame) (bs : List Bool) → (b₅ ≡ false → number_of (accepted h r v) ≡ first 10 bs)
+chain : (b₁ b₂ b₃ b₄ b₅ b₆ b₇ b₈ b₉ : Bool) (h : Option SpliceInfoHeader) (r : Result SpliceCommand CommandRefusal) (v : Frame) (bs : List Bool) → (b₅ ≡ false → number_of (accepted h r v) ≡ first 10 bs)
     → number_of
     (through
-    (pick b₁ (FrameRead.Refused Refusal.SectionTooShort)
-    (pick b₂ (FrameRead.Refused Refusal.InputTooLong)
-    (pick b₃ (FrameRead.Refused Refusal.OtherTable)
-    (pick b₄ (FrameRead.Refused Refusal.WrongCrc)
-    (pick b₅ (FrameRead.Refused Refusal.NoHeader)
-    (pick b₆ (FrameRead.Refused Refusal.Encrypted)
-    (pick b₇ (FrameRead.Refused Refusal.CommandTooLong)
-    (pick b₈ (FrameRead.Refused Refusal.NoLoopLength)
-    (pick b₉ (FrameRead.Refused Refusal.LoopTooLong) (FrameRead.Is v)))))))))) h r)
+    (pick b₁ (Err Refusal.SectionTooShort)
+    (pick b₂ (Err Refusal.InputTooLong)
+    (pick b₃ (Err Refusal.OtherTable)
+    (pick b₄ (Err Refusal.WrongCrc)
+    (pick b₅ (Err Refusal.NoHeader)
+    (pick b₆ (Err Refusal.Encrypted)
+    (pick b₇ (Err Refusal.CommandTooLong)
+    (pick b₈ (Err Refusal.NoLoopLength)
+    (pick b₉ (Err Refusal.LoopTooLong) (Ok v)))))))))) h r)
     ≡ first 1 (b₁ ∷ b₂ ∷ b₃ ∷ b₄ ∷ b₅ ∷ b₆ ∷ b₇ ∷ b₈ ∷ b₉ ∷ bs)
 unfolding number_of
 chain true b₂ b₃ b₄ b₅ b₆ b₇ b₈ b₉ h r v bs k = refl
@@ -77,31 +76,31 @@ first_none n [] e = tt
 first_none n (true ∷ bs) e = absurd (omega arith)
 first_none n (false ∷ bs) e = (refl, first_none (suc n) bs e)
 
-pub is_read : (r : SectionRead) → number_of r ≡ 0 → (x : Section) × (r ≡ SectionRead.Is x)
+pub is_read : (r : Result Section Refusal) → number_of r ≡ 0 → (x : Section) × (r ≡ Ok x)
 unfolding number_of
-is_read (SectionRead.Is x) e = (x, refl)
-is_read (SectionRead.Refused Refusal.SectionTooShort) e = absurd (omega arith)
-is_read (SectionRead.Refused Refusal.InputTooLong) e = absurd (omega arith)
-is_read (SectionRead.Refused Refusal.OtherTable) e = absurd (omega arith)
-is_read (SectionRead.Refused Refusal.WrongCrc) e = absurd (omega arith)
-is_read (SectionRead.Refused Refusal.NoHeader) e = absurd (omega arith)
-is_read (SectionRead.Refused Refusal.Encrypted) e = absurd (omega arith)
-is_read (SectionRead.Refused Refusal.CommandTooLong) e = absurd (omega arith)
-is_read (SectionRead.Refused Refusal.NoLoopLength) e = absurd (omega arith)
-is_read (SectionRead.Refused Refusal.LoopTooLong) e = absurd (omega arith)
-is_read (SectionRead.Refused Refusal.UnknownCommand) e = absurd (omega arith)
-is_read (SectionRead.Refused Refusal.MalformedCommand) e = absurd (omega arith)
+is_read (Ok x) e = (x, refl)
+is_read (Err Refusal.SectionTooShort) e = absurd (omega arith)
+is_read (Err Refusal.InputTooLong) e = absurd (omega arith)
+is_read (Err Refusal.OtherTable) e = absurd (omega arith)
+is_read (Err Refusal.WrongCrc) e = absurd (omega arith)
+is_read (Err Refusal.NoHeader) e = absurd (omega arith)
+is_read (Err Refusal.Encrypted) e = absurd (omega arith)
+is_read (Err Refusal.CommandTooLong) e = absurd (omega arith)
+is_read (Err Refusal.NoLoopLength) e = absurd (omega arith)
+is_read (Err Refusal.LoopTooLong) e = absurd (omega arith)
+is_read (Err Refusal.UnknownCommand) e = absurd (omega arith)
+is_read (Err Refusal.MalformedCommand) e = absurd (omega arith)
 
-pub number_some : (r : Refusal) → number_of (SectionRead.Refused r) ≡ 0 → ⊥
-number_some r e = let i = is_read (SectionRead.Refused r) e in zero_one (cc i.1)
+pub number_some : (r : Refusal) → number_of (Err r) ≡ 0 → ⊥
+number_some r e = let i = is_read (Err r) e in zero_one (cc i.1)
 
 pub none_holds : (s : List ℕ) → number_of (section_of s) ≡ 0 → None (conditions s)
 none_holds s e = first_none 0 (conditions s) (sym (refusals_in_order s) ∙ e)
 
 -- 01: "A section is accepted exactly when none of 1 to 11 applies"
-pub accepted_if_none : (s : List ℕ) → None (conditions s) → (x : Section) × (section_of s ≡ SectionRead.Is x)
+pub accepted_if_none : (s : List ℕ) → None (conditions s) → (x : Section) × (section_of s ≡ Ok x)
 accepted_if_none s h = is_read (section_of s) (refusals_in_order s ∙ none_first 1 (conditions s) h)
 
-pub none_if_accepted : (s : List ℕ) (x : Section) → section_of s ≡ SectionRead.Is x → None (conditions s)
+pub none_if_accepted : (s : List ℕ) (x : Section) → section_of s ≡ Ok x → None (conditions s)
 unfolding number_of
 none_if_accepted s x e = none_holds s (ap number_of e)

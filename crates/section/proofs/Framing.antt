@@ -9,12 +9,10 @@ use lib.ListN.{length, get_or, take, drop, length-drop}
 use lib.Seq.{take_all}
 use borrow.Author.Tests.{lt-ltb, le-ltb, le-leb, ltb-false, eq-eqb, ne_eqb}
 use Rattle.command.specs.Command.{command_of}
-use Rattle.command.specs.declared.CommandRead.{CommandRead}
 use Rattle.command.specs.declared.SpliceCommand.{SpliceCommand}
 use Rattle.command.proofs.Payloads.{private_behind}
 use Rattle.crc.specs.Crc.{crc_of}
 use Rattle.header.specs.Header.{header_of}
-use Rattle.header.specs.declared.header.HeaderRead.{HeaderRead}
 use Rattle.header.specs.declared.header.SpliceInfoHeader.{SpliceInfoHeader}
 use Rattle.table.specs.Bits.{pick, bits_of, field}
 use Rattle.table.specs.Lent.{viewed}
@@ -23,37 +21,38 @@ use Rattle.table.proofs.Reading.{bits_are}
 use Rattle.section.specs.Section.{command_length, command_type, command_bytes, room_after, loop_length, loop_place, frame_in, loop_bytes, moved, moved_read, frame_of, accepted, through, section_of}
 use Rattle.section.specs.Private.{view_start, layout_of}
 use Rattle.section.specs.declared.Frame.{Frame}
-use Rattle.section.specs.declared.FrameRead.{FrameRead}
 use Rattle.section.specs.declared.Refusal.{Refusal}
-use Rattle.section.specs.declared.SectionRead.{SectionRead}
+use Rattle.std.proofs.Common.{Ok, Err, Some, None, Option, Result}
+use Rattle.command.specs.declared.CommandRefusal.{CommandRefusal}
+use Rattle.section.specs.declared.Section.{Section}
 
 -- ---- 1 to 5
 module _ (s : List ℕ) where
-  pub is_short : length s < 3 → FrameRead.Refused Refusal.SectionTooShort ≡ frame_of s
+  pub is_short : length s < 3 → Err Refusal.SectionTooShort ≡ frame_of s
   unfolding frame_of
   is_short h = rw (lt-ltb (length s) 3 h)
 
   module _ (long : 3 ≤ length s) where
-    pub is_long : 4096 < length s → FrameRead.Refused Refusal.InputTooLong ≡ frame_of s
+    pub is_long : 4096 < length s → Err Refusal.InputTooLong ≡ frame_of s
     unfolding frame_of
     is_long h = rw (le-ltb (length s) 3 long, lt-ltb 4096 (length s) h)
 
     module _ (fits : length s ≤ 4096) where
-      pub is_other : (get_or s 0 0 ≡ 0xfc → ⊥) → FrameRead.Refused Refusal.OtherTable ≡ frame_of s
+      pub is_other : (get_or s 0 0 ≡ 0xfc → ⊥) → Err Refusal.OtherTable ≡ frame_of s
       unfolding frame_of
       is_other h = rw (le-ltb (length s) 3 long, le-ltb 4096 (length s) fits, ne_eqb (get_or s 0 0) 0xfc h)
 
       module _ (table : get_or s 0 0 ≡ 0xfc) where
-        pub is_wrong : (crc_of s ≡ 0 → ⊥) → FrameRead.Refused Refusal.WrongCrc ≡ frame_of s
+        pub is_wrong : (crc_of s ≡ 0 → ⊥) → Err Refusal.WrongCrc ≡ frame_of s
         unfolding frame_of
         is_wrong h = rw (le-ltb (length s) 3 long, le-ltb 4096 (length s) fits, eq-eqb (get_or s 0 0) 0xfc table, ne_eqb (crc_of s) 0 h)
 
         module _ (right : crc_of s ≡ 0) where
-          pub is_headless : length s < 18 → FrameRead.Refused Refusal.NoHeader ≡ frame_of s
+          pub is_headless : length s < 18 → Err Refusal.NoHeader ≡ frame_of s
           unfolding frame_of
           is_headless h = rw (le-ltb (length s) 3 long, le-ltb 4096 (length s) fits, eq-eqb (get_or s 0 0) 0xfc table, eq-eqb (crc_of s) 0 right, lt-ltb (length s) 18 h)
 
-          pub is_framed : (r : FrameRead) → 18 ≤ length s → r ≡ layout_of s → r ≡ frame_of s
+          pub is_framed : (r : Result Frame Refusal) → 18 ≤ length s → r ≡ layout_of s → r ≡ frame_of s
           unfolding frame_of layout_of
           is_framed r h e = rw (le-ltb (length s) 3 long, le-ltb 4096 (length s) fits, eq-eqb (get_or s 0 0) 0xfc table, eq-eqb (crc_of s) 0 right, le-ltb (length s) 18 h) e
 
@@ -85,7 +84,7 @@ module _ (s : List ℕ) where
     bit_is : field (bits_of s) 32 1 ≡ get_or s 4 0 / 128 % 2
     bit_is = field_in s 4 (omega arith) byte 0 1 7 refl
 
-    pub is_encrypted : 128 ≤ get_or s 4 0 → FrameRead.Refused Refusal.Encrypted ≡ layout_of s
+    pub is_encrypted : 128 ≤ get_or s 4 0 → Err Refusal.Encrypted ≡ layout_of s
     unfolding layout_of
     is_encrypted h = rw (eq-eqb (field (bits_of s) 32 1) 1 (omega (arith, bit_is)))
 
@@ -94,21 +93,21 @@ module _ (s : List ℕ) where
       clear_bit = ne_eqb (field (bits_of s) 32 1) 1 (λ e. omega (arith, bit_is, e))
 
       module _ (n : ℕ) (en : n ≡ command_length s) where
-        pub is_command_long : length s - 18 < n → FrameRead.Refused Refusal.CommandTooLong ≡ layout_of s
+        pub is_command_long : length s - 18 < n → Err Refusal.CommandTooLong ≡ layout_of s
         unfolding layout_of
         is_command_long h = rw (clear_bit, ← en, lt-ltb (length s - 18) n h)
 
         module _ (fits : n ≤ length s - 18) where
-          pub is_loopless : length s - 18 - n < 2 → FrameRead.Refused Refusal.NoLoopLength ≡ layout_of s
+          pub is_loopless : length s - 18 - n < 2 → Err Refusal.NoLoopLength ≡ layout_of s
           unfolding layout_of room_after
           is_loopless h = rw (clear_bit, ← en, le-ltb (length s - 18) n fits, lt-ltb (length s - 18 - n) 2 h)
 
           module _ (room : 2 ≤ length s - 18 - n) (m : ℕ) (em : m ≡ loop_length s) where
-            pub is_loop_long : length s - 18 - n < m + 2 → FrameRead.Refused Refusal.LoopTooLong ≡ layout_of s
+            pub is_loop_long : length s - 18 - n < m + 2 → Err Refusal.LoopTooLong ≡ layout_of s
             unfolding layout_of room_after
             is_loop_long h = rw (clear_bit, ← em, ← en, le-ltb (length s - 18) n fits, le-ltb (length s - 18 - n) 2 room, lt-ltb (length s - 18 - n) (m + 2) h)
 
-            pub is_laid : m + 2 ≤ length s - 18 - n → FrameRead.Is (record { command = record { at = 14; len = n }; descriptors = record { at = 16 + n; len = m } }) ≡ layout_of s
+            pub is_laid : m + 2 ≤ length s - 18 - n → Ok (record { command = record { at = 14; len = n }; descriptors = record { at = 16 + n; len = m } }) ≡ layout_of s
             unfolding layout_of room_after loop_place frame_in
             is_laid h = rw (clear_bit, ← em, ← en, le-ltb (length s - 18) n fits, le-ltb (length s - 18 - n) 2 room, le-ltb (length s - 18 - n) (m + 2) h)
 
@@ -116,49 +115,49 @@ module _ (s : List ℕ) where
     not_set : eqb (field (bits_of s) 32 1) 1 ≡ false
     not_set = ne_eqb (field (bits_of s) 32 1) 1 (λ e. clear ((bits_are s 32 1 v (omega arith) ev).0 ∙ e))
 
-    pub no_loop : length s - 18 - n < 2 → FrameRead.Refused Refusal.NoLoopLength ≡ layout_of s
+    pub no_loop : length s - 18 - n < 2 → Err Refusal.NoLoopLength ≡ layout_of s
     unfolding layout_of room_after
     no_loop h = rw (not_set, ← en, le-ltb (length s - 18) n fits, lt-ltb (length s - 18 - n) 2 h)
 
     module _ (room : 2 ≤ length s - 18 - n) (m : ℕ) (em : m ≡ loop_length s) where
-      pub has_parts : m + 2 ≤ length s - 18 - n → FrameRead.Is (frame_in s) ≡ layout_of s
+      pub has_parts : m + 2 ≤ length s - 18 - n → Ok (frame_in s) ≡ layout_of s
       unfolding layout_of room_after
       has_parts h = rw (not_set, ← em, ← en, le-ltb (length s - 18) n fits, le-ltb (length s - 18 - n) 2 room, le-ltb (length s - 18 - n) (m + 2) h)
 
 -- ---- from the frame to the section
-abbrev pub command_read : List ℕ → CommandRead
+abbrev pub command_read : List ℕ → Result SpliceCommand CommandRefusal
 command_read s = command_of (command_type s) (command_bytes s)
 
-pub is_refused : (s : List ℕ) (x : Refusal) → FrameRead.Refused x ≡ frame_of s → SectionRead.Refused x ≡ section_of s
+pub is_refused : (s : List ℕ) (x : Refusal) → Err x ≡ frame_of s → Err x ≡ section_of s
 unfolding section_of
-is_refused s x e = ap (λ (f : FrameRead). through f (header_of (drop 3 s)) (moved_read (command_read s))) e
+is_refused s x e = ap (λ (f : Result Frame Refusal). through f (header_of (drop 3 s)) (moved_read (command_read s))) e
 
-pub is_accepted : (s : List ℕ) (v : Frame) (r : SectionRead) → FrameRead.Is v ≡ frame_of s → r ≡ accepted (header_of (drop 3 s)) (moved_read (command_read s)) v → r ≡ section_of s
+pub is_accepted : (s : List ℕ) (v : Frame) (r : Result Section Refusal) → Ok v ≡ frame_of s → r ≡ accepted (header_of (drop 3 s)) (moved_read (command_read s)) v → r ≡ section_of s
 unfolding section_of
-is_accepted s v r e f = f ∙ ap (λ (x : FrameRead). through x (header_of (drop 3 s)) (moved_read (command_read s))) e
+is_accepted s v r e f = f ∙ ap (λ (x : Result Frame Refusal). through x (header_of (drop 3 s)) (moved_read (command_read s))) e
 
 -- what a whole frame says
-abbrev as_number : FrameRead → ℕ
-as_number (FrameRead.Is v) = 1
-as_number (FrameRead.Refused x) = 0
+abbrev as_number : Result Frame Refusal → ℕ
+as_number (Ok v) = 1
+as_number (Err x) = 0
 
-not_laid : {A : Type 0} (x : Refusal) (v : Frame) → FrameRead.Is v ≡ FrameRead.Refused x → A
+not_laid : {A : Type 0} (x : Refusal) (v : Frame) → Ok v ≡ Err x → A
 not_laid x v e = let z : ◌≡◌ {A = ℕ} 1 0 = ap as_number e in absurd (omega (arith, z))
 
-abbrev place_in : FrameRead → Frame → Frame
-place_in (FrameRead.Is v) w = v
-place_in (FrameRead.Refused x) w = w
+abbrev place_in : Result Frame Refusal → Frame → Frame
+place_in (Ok v) w = v
+place_in (Err x) w = w
 
 tests : (b₁ b₂ b₃ b₄ b₅ b₆ b₇ b₈ b₉ : Bool) (v w : Frame)
-    → FrameRead.Is w ≡ pick b₁ (FrameRead.Refused Refusal.SectionTooShort)
-    (pick b₂ (FrameRead.Refused Refusal.InputTooLong)
-    (pick b₃ (FrameRead.Refused Refusal.OtherTable)
-    (pick b₄ (FrameRead.Refused Refusal.WrongCrc)
-    (pick b₅ (FrameRead.Refused Refusal.NoHeader)
-    (pick b₆ (FrameRead.Refused Refusal.Encrypted)
-    (pick b₇ (FrameRead.Refused Refusal.CommandTooLong)
-    (pick b₈ (FrameRead.Refused Refusal.NoLoopLength)
-    (pick b₉ (FrameRead.Refused Refusal.LoopTooLong) (FrameRead.Is v)))))))))
+    → Ok w ≡ pick b₁ (Err Refusal.SectionTooShort)
+    (pick b₂ (Err Refusal.InputTooLong)
+    (pick b₃ (Err Refusal.OtherTable)
+    (pick b₄ (Err Refusal.WrongCrc)
+    (pick b₅ (Err Refusal.NoHeader)
+    (pick b₆ (Err Refusal.Encrypted)
+    (pick b₇ (Err Refusal.CommandTooLong)
+    (pick b₈ (Err Refusal.NoLoopLength)
+    (pick b₉ (Err Refusal.LoopTooLong) (Ok v)))))))))
     → (w ≡ v) × (b₂ ≡ false) × (b₅ ≡ false) × (b₇ ≡ false) × (b₈ ≡ false) × (b₉ ≡ false)
 tests true b₂ b₃ b₄ b₅ b₆ b₇ b₈ b₉ v w e = not_laid _ w e
 tests false true b₃ b₄ b₅ b₆ b₇ b₈ b₉ v w e = not_laid _ w e
@@ -169,7 +168,7 @@ tests false false false false false true b₇ b₈ b₉ v w e = not_laid _ w e
 tests false false false false false false true b₈ b₉ v w e = not_laid _ w e
 tests false false false false false false false true b₉ v w e = not_laid _ w e
 tests false false false false false false false false true v w e = not_laid _ w e
-tests false false false false false false false false false v w e = (ap (λ (f : FrameRead). place_in f v) e, refl, refl, refl, refl, refl)
+tests false false false false false false false false false v w e = (ap (λ (f : Result Frame Refusal). place_in f v) e, refl, refl, refl, refl, refl)
 
 pub record Framed (s : List ℕ) (v : Frame) : Type 0 where
   pub place : v ≡ frame_in s
@@ -179,7 +178,7 @@ pub record Framed (s : List ℕ) (v : Frame) : Type 0 where
   pub long : 18 ≤ length s
   pub fits : 20 + command_length s + loop_length s ≤ length s
 
-pub framed : (s : List ℕ) (v : Frame) → FrameRead.Is v ≡ frame_of s → Framed s v
+pub framed : (s : List ℕ) (v : Frame) → Ok v ≡ frame_of s → Framed s v
 unfolding frame_of room_after loop_place frame_in
 framed s v e =
     let t = tests (ltb (length s) 3) (ltb 4096 (length s)) (not (eqb (get_or s 0 0) 0xfc)) (not (eqb (crc_of s) 0)) (ltb (length s) 18)
@@ -198,54 +197,54 @@ framed s v e =
     }
 
 -- the bytes of its two parts, by the views of the frame
-pub command_viewed : (s : List ℕ) (v : Frame) → FrameRead.Is v ≡ frame_of s → viewed s v.command ≡ command_bytes s
+pub command_viewed : (s : List ℕ) (v : Frame) → Ok v ≡ frame_of s → viewed s v.command ≡ command_bytes s
 unfolding viewed frame_in command_bytes
 command_viewed s v e =
     let f = framed s v e in
     rw (f.place, le-leb (14 + command_length s) (length s) (omega (arith, f.fits)))
 
-pub loop_viewed : (s : List ℕ) (v : Frame) → FrameRead.Is v ≡ frame_of s → viewed s v.descriptors ≡ loop_bytes s
+pub loop_viewed : (s : List ℕ) (v : Frame) → Ok v ≡ frame_of s → viewed s v.descriptors ≡ loop_bytes s
 unfolding frame_in
 loop_viewed s v e = rw (framed s v e).place
 
 -- ---- 10, 11 and the reading
-pub no_header : (h : HeaderRead) (r : CommandRead) (v : Frame) → h ≡ HeaderRead.NoHeader → SectionRead.Refused Refusal.NoHeader ≡ accepted h r v
+pub no_header : (h : Option SpliceInfoHeader) (r : Result SpliceCommand CommandRefusal) (v : Frame) → h ≡ None → Err Refusal.NoHeader ≡ accepted h r v
 unfolding accepted
 no_header h r v e = rw e
 
-module _ (h : HeaderRead) (x : SpliceInfoHeader) (eh : h ≡ HeaderRead.Header x) (r : CommandRead) (v : Frame) where
-  pub is_unknown : r ≡ CommandRead.UnknownType → SectionRead.Refused Refusal.UnknownCommand ≡ accepted h (moved_read r) v
+module _ (h : Option SpliceInfoHeader) (x : SpliceInfoHeader) (eh : h ≡ Some x) (r : Result SpliceCommand CommandRefusal) (v : Frame) where
+  pub is_unknown : r ≡ Err CommandRefusal.UnknownType → Err Refusal.UnknownCommand ≡ accepted h (moved_read r) v
   unfolding accepted moved_read
   is_unknown e = rw (eh, e)
 
-  pub is_malformed : r ≡ CommandRead.Malformed → SectionRead.Refused Refusal.MalformedCommand ≡ accepted h (moved_read r) v
+  pub is_malformed : r ≡ Err CommandRefusal.Malformed → Err Refusal.MalformedCommand ≡ accepted h (moved_read r) v
   unfolding accepted moved_read
   is_malformed e = rw (eh, e)
 
-  pub is_section : (c d : SpliceCommand) (u : Frame) → r ≡ CommandRead.Is c → d ≡ moved 14 c → u ≡ v
-      → SectionRead.Is (record { header = x; command = d; descriptors = u.descriptors; payload = u.command }) ≡ accepted h (moved_read r) v
+  pub is_section : (c d : SpliceCommand) (u : Frame) → r ≡ Ok c → d ≡ moved 14 c → u ≡ v
+      → Ok (record { header = x; command = d; descriptors = u.descriptors; payload = u.command }) ≡ accepted h (moved_read r) v
   unfolding accepted moved_read
   is_section c d u e f g = rw (eh, e, f, g)
 
 -- the same of a command as the section has it
-pub section_is : (s : List ℕ) (p : Frame) (x : SpliceInfoHeader) (y : CommandRead) → header_of (drop 3 s) ≡ HeaderRead.Header x → y ≡ moved_read (command_read s) → p ≡ frame_in s
-    → accepted (HeaderRead.Header x) y p ≡ accepted (header_of (drop 3 s)) (moved_read (command_read s)) (frame_in s)
+pub section_is : (s : List ℕ) (p : Frame) (x : SpliceInfoHeader) (y : Result SpliceCommand CommandRefusal) → header_of (drop 3 s) ≡ Some x → y ≡ moved_read (command_read s) → p ≡ frame_in s
+    → accepted (Some x) y p ≡ accepted (header_of (drop 3 s)) (moved_read (command_read s)) (frame_in s)
 section_is s p x y eh ey ep = rw (ep, ey, eh)
 
-pub is_moved : (r : CommandRead) (c d : SpliceCommand) → r ≡ CommandRead.Is c → d ≡ moved 14 c → CommandRead.Is d ≡ moved_read r
+pub is_moved : (r : Result SpliceCommand CommandRefusal) (c d : SpliceCommand) → r ≡ Ok c → d ≡ moved 14 c → Ok d ≡ moved_read r
 unfolding moved_read
 is_moved r c d e f = rw (e, f)
 
-pub unknown_moved : (r : CommandRead) → r ≡ CommandRead.UnknownType → CommandRead.UnknownType ≡ moved_read r
+pub unknown_moved : (r : Result SpliceCommand CommandRefusal) → r ≡ Err CommandRefusal.UnknownType → Err CommandRefusal.UnknownType ≡ moved_read r
 unfolding moved_read
 unknown_moved r e = rw e
 
-pub malformed_moved : (r : CommandRead) → r ≡ CommandRead.Malformed → CommandRead.Malformed ≡ moved_read r
+pub malformed_moved : (r : Result SpliceCommand CommandRefusal) → r ≡ Err CommandRefusal.Malformed → Err CommandRefusal.Malformed ≡ moved_read r
 unfolding moved_read
 malformed_moved r e = rw e
 
 -- the views of a command begin within four bytes of its payload
-pub within_four : (k : ℕ) (s : List ℕ) (c : SpliceCommand) → command_of k s ≡ CommandRead.Is c → view_start c ≤ 4
+pub within_four : (k : ℕ) (s : List ℕ) (c : SpliceCommand) → command_of k s ≡ Ok c → view_start c ≤ 4
 within_four k s (SpliceCommand.PrivateCommand p) e = omega (arith, private_behind k s p e)
 within_four k s SpliceCommand.SpliceNull e = omega arith
 within_four k s (SpliceCommand.SpliceInsert i) e = omega arith

@@ -6,20 +6,20 @@ use native.Mathlib.Omega.{arith}
 use lib.ListN.{length, get_or, drop}
 use borrow.Author.Tests.{ltb-false, eqb-true, eqb-false, not-false}
 use Rattle.command.specs.Command as command
-use Rattle.command.specs.declared.CommandRead.{CommandRead}
 use Rattle.command.specs.declared.SpliceCommand.{SpliceCommand}
 use Rattle.crc.specs.Crc.{crc_of}
 use Rattle.header.specs.Header.{header_of}
-use Rattle.header.specs.declared.header.HeaderRead.{HeaderRead}
 use Rattle.section.specs.Section.{command_length, command_type, command_bytes, room_after, loop_length, loop_place, frame_in, moved, moved_read, accepted, section_of, section_length}
 use Rattle.section.specs.declared.Frame.{Frame}
 use Rattle.section.specs.declared.Section.{Section}
-use Rattle.section.specs.declared.SectionRead.{SectionRead}
 use Rattle.section.proofs.Acceptance.{none_if_accepted}
 use Rattle.section.proofs.Framing.{is_framed, has_parts, is_accepted}
 use Rattle.table.specs.Bits.{bits_of, field}
 use Rattle.table.proofs.Lists.{zero_one}
 use Rattle.table.proofs.Reading.{field_exact}
+use Rattle.std.proofs.Common.{Ok, Err, Some, None, Option, Result}
+use Rattle.command.specs.declared.CommandRefusal.{CommandRefusal}
+use Rattle.header.specs.declared.header.SpliceInfoHeader.{SpliceInfoHeader}
 
 pub record Parts (s : List ℕ) (x : Section) : Type 0 where
   pub long : 18 ≤ length s
@@ -28,38 +28,38 @@ pub record Parts (s : List ℕ) (x : Section) : Type 0 where
   pub first : get_or s 0 0 ≡ 0xfc
   pub crc : crc_of s ≡ 0
   pub clear : field (bits_of s) 32 1 ≡ 1 → ⊥
-  pub header : header_of (drop 3 s) ≡ HeaderRead.Header x.header
+  pub header : header_of (drop 3 s) ≡ Some x.header
   pub own : SpliceCommand
-  pub command : command.command_of (command_type s) (command_bytes s) ≡ CommandRead.Is own
+  pub command : command.command_of (command_type s) (command_bytes s) ≡ Ok own
   pub moves : x.command ≡ moved 14 own
   pub loop : x.descriptors ≡ loop_place s
   pub payload : x.payload ≡ record { at = 14; len = command_length s }
 
-record Made (h : HeaderRead) (r : CommandRead) (v : Frame) (x : Section) : Type 0 where
-  pub header : h ≡ HeaderRead.Header x.header
+record Made (h : Option SpliceInfoHeader) (r : Result SpliceCommand CommandRefusal) (v : Frame) (x : Section) : Type 0 where
+  pub header : h ≡ Some x.header
   pub own : SpliceCommand
-  pub command : r ≡ CommandRead.Is own
+  pub command : r ≡ Ok own
   pub moves : x.command ≡ moved 14 own
   pub loop : x.descriptors ≡ v.descriptors
   pub payload : x.payload ≡ v.command
 
-made : (h : HeaderRead) (r : CommandRead) (v : Frame) (x : Section) → accepted h (moved_read r) v ≡ SectionRead.Is x → Made h r v x
+made : (h : Option SpliceInfoHeader) (r : Result SpliceCommand CommandRefusal) (v : Frame) (x : Section) → accepted h (moved_read r) v ≡ Ok x → Made h r v x
 unfolding accepted moved_read
-made (HeaderRead.Header h) (CommandRead.Is c) v x e =
+made (Some h) (Ok c) v x e =
     let f : record { header = h; command = moved 14 c; descriptors = v.descriptors; payload = v.command } ≡ x = cc in
     record {
-      header = ap (λ (y : Section). HeaderRead.Header y.header) f;
+      header = ap (λ (y : Section). Some y.header) f;
       own = c;
       command = refl;
       moves = ap (λ (y : Section). y.command) (sym f);
       loop = ap (λ (y : Section). y.descriptors) (sym f);
       payload = ap (λ (y : Section). y.payload) (sym f);
     }
-made (HeaderRead.Header h) CommandRead.UnknownType v x e = zero_one cc
-made (HeaderRead.Header h) CommandRead.Malformed v x e = zero_one cc
-made HeaderRead.NoHeader r v x e = zero_one cc
+made (Some h) (Err CommandRefusal.UnknownType) v x e = zero_one cc
+made (Some h) (Err CommandRefusal.Malformed) v x e = zero_one cc
+made None r v x e = zero_one cc
 
-pub parts_of_lem : (s : List ℕ) (x : Section) → section_of s ≡ SectionRead.Is x → Parts s x
+pub parts_of_lem : (s : List ℕ) (x : Section) → section_of s ≡ Ok x → Parts s x
 unfolding room_after frame_in
 parts_of_lem s x e =
     let n = none_if_accepted s x e in

@@ -9,11 +9,9 @@ use Rattle.crc.specs.Crc.{crc_of, crc_bits, crc_bit}
 use Rattle.command.specs.Command.{command_of, array, components_of}
 use Rattle.command.specs.Insert.{blank, time_unless, component, moded, ending, active, insert}
 use Rattle.splice_time.specs.Break.{break_duration}
-use Rattle.command.specs.declared.CommandRead.{CommandRead}
 use Rattle.command.specs.declared.SpliceCommand.{SpliceCommand}
 use Rattle.header.specs.Header.{splice_header, header_read, header_of}
 use Rattle.splice_time.specs.Time.{splice_time}
-use Rattle.header.specs.declared.header.HeaderRead.{HeaderRead}
 use Rattle.header.specs.declared.header.SpliceInfoHeader.{SpliceInfoHeader}
 use Rattle.splice_time.specs.declared.SpliceTime.{SpliceTime}
 use Rattle.header.proofs.Headers.{header_there}
@@ -22,9 +20,10 @@ use Rattle.table.specs.Table.{number, bit, reserved, list}
 use Rattle.section.specs.Section.{command_length, command_type, command_bytes, room_after, loop_length, loop_place, frame_in, moved, moved_read, accepted, frame_of, section_of, number_of}
 use Rattle.section.specs.Private.{layout_of}
 use Rattle.section.specs.Full.{full_section_of}
-use Rattle.section.specs.declared.FrameRead.{FrameRead}
-use Rattle.section.specs.declared.SectionRead.{SectionRead}
 use Rattle.section.proofs.Framing.{is_framed, no_loop, has_parts, is_refused, is_accepted, is_section}
+use Rattle.std.proofs.Common.{Ok, Some, Result}
+use Rattle.section.specs.declared.Frame.{Frame}
+use Rattle.section.specs.declared.Refusal.{Refusal}
 
 -- a section with right CRC and command length 0, not encrypted
 pub record Plain (s : List ℕ) : Type 0 where
@@ -40,7 +39,7 @@ module _ {s : List ℕ} (p : Plain s) where
   not_one : ◌≡◌ {A = ℕ} 0 1 → ⊥
   not_one e = omega arith
 
-  laid_out : (r : FrameRead) → 18 ≤ length s → length s ≤ 20 → r ≡ layout_of s → r ≡ frame_of s
+  laid_out : (r : Result Frame Refusal) → 18 ≤ length s → length s ≤ 20 → r ≡ layout_of s → r ≡ frame_of s
   laid_out r h k e = is_framed s (omega arith) (omega arith) p.table p.right r h e
 
   -- "18 and 19 bytes give 8"
@@ -55,13 +54,13 @@ module _ {s : List ℕ} (p : Plain s) where
   pub row_19 : length s ≡ 19 → number_of (section_of s) ≡ 8
   row_19 e = no_loop_length (omega arith) (omega arith)
 
-  null : command_type s ≡ 0 → command_of (command_type s) (command_bytes s) ≡ CommandRead.Is SpliceCommand.SpliceNull
+  null : command_type s ≡ 0 → command_of (command_type s) (command_bytes s) ≡ Ok SpliceCommand.SpliceNull
   unfolding command_of command_bytes
   null e = rw (e, p.none)
 
   -- "20 with loop length 0 and command type 0 is accepted", a null command with an empty loop
-  pub row_20 : length s ≡ 20 → loop_length s ≡ 0 → command_type s ≡ 0 → (h : SpliceInfoHeader) × (header_of (drop 3 s) ≡ HeaderRead.Header h)
-      × (section_of s ≡ SectionRead.Is (record { header = h; command = SpliceCommand.SpliceNull; descriptors = record { at = 16; len = 0 }; payload = record { at = 14; len = 0 } }))
+  pub row_20 : length s ≡ 20 → loop_length s ≡ 0 → command_type s ≡ 0 → (h : SpliceInfoHeader) × (header_of (drop 3 s) ≡ Some h)
+      × (section_of s ≡ Ok (record { header = h; command = SpliceCommand.SpliceNull; descriptors = record { at = 16; len = 0 }; payload = record { at = 14; len = 0 } }))
   unfolding moved loop_place frame_in
   row_20 e l t =
       let h = header_there (drop 3 s) (omega (arith, length-drop 3 s)) in (

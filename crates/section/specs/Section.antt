@@ -1,20 +1,19 @@
 -- A section, by positions. 01, "Section": three bytes of common header; 11 of splice header; command; 2 of loop length; loop; anything; 4 of CRC.
-use Rattle.std.specs.Prelude.{ℕ, suc, ◌+◌, ◌*◌, ◌-◌, Bool, true, false, not, List, [], ◌∷◌, ◌++◌, map, ◌≡◌, ltb, eqb, length, get_or, take, drop}
+use Rattle.std.specs.Prelude.{ℕ, suc, ◌+◌, ◌*◌, ◌-◌, Bool, true, false, not, List, [], ◌∷◌, ◌++◌, map, ◌≡◌, ltb, eqb, length, get_or, take, drop, Ok, Err, Some, Option, Result}
+use Rattle.std.specs.declared.option.Option.TheVariants as option
 use Rattle.command.specs.Command as command
 use Rattle.command.specs.Command.{command_of, of_private, with_view}
-use Rattle.command.specs.declared.CommandRead.{CommandRead}
 use Rattle.command.specs.declared.SpliceCommand.{SpliceCommand}
 use Rattle.crc.specs.Crc.{crc_of}
 use Rattle.header.specs.Header.{header_of}
-use Rattle.header.specs.declared.header.HeaderRead.{HeaderRead}
 use Rattle.table.specs.Bits.{pick, bits_of, field}
 use Rattle.table.specs.Lent.{no_view, shifted, viewed}
 use Rattle.table.specs.declared.View.{View}
 use Rattle.section.specs.declared.Frame.{Frame}
-use Rattle.section.specs.declared.FrameRead.{FrameRead}
 use Rattle.section.specs.declared.Refusal.{Refusal}
-use Rattle.section.specs.declared.SectionRead.{SectionRead}
 use Rattle.section.specs.declared.Section.{Section}
+use Rattle.command.specs.declared.CommandRefusal.{CommandRefusal}
+use Rattle.header.specs.declared.header.SpliceInfoHeader.{SpliceInfoHeader}
 
 -- ---- the layout: the splice header begins at byte 3, the command at byte 14, and the last four bytes are the CRC
 -- splice_command_length: 12 bits from the middle of byte 11 on
@@ -99,12 +98,12 @@ None [] = Unit {0}
 None (b ∷ bs) = (b ≡ false) × None bs
 
 -- ---- the frame: where the parts lie; or the refusal of the first test that holds: they "are checked in order of number"
-abbrev pub unless_first : List (Bool × Refusal) → FrameRead → FrameRead
+abbrev pub unless_first : List (Bool × Refusal) → Result Frame Refusal → Result Frame Refusal
 unless_first [] r = r
-unless_first (t ∷ ts) r = pick t.0 (FrameRead.Refused t.1) (unless_first ts r)
+unless_first (t ∷ ts) r = pick t.0 (Err t.1) (unless_first ts r)
 
-unfoldable pub frame_of : List ℕ → FrameRead
-frame_of s = unless_first (frame_tests s) (FrameRead.Is (frame_in s))
+unfoldable pub frame_of : List ℕ → Result Frame Refusal
+frame_of s = unless_first (frame_tests s) (Ok (frame_in s))
 
 -- ---- the reading
 -- a command whose views count from `base` bytes before its payload
@@ -112,41 +111,41 @@ unfoldable pub moved : ℕ → SpliceCommand → SpliceCommand
 moved base c = with_view (shifted base) c
 
 -- a command as a section has it: its views count from the section's first byte (`read_command_part` answers this)
-unfoldable pub moved_read : CommandRead → CommandRead
-moved_read (CommandRead.Is c) = CommandRead.Is (moved 14 c)
-moved_read CommandRead.UnknownType = CommandRead.UnknownType
-moved_read CommandRead.Malformed = CommandRead.Malformed
+unfoldable pub moved_read : Result SpliceCommand CommandRefusal → Result SpliceCommand CommandRefusal
+moved_read (Ok c) = Ok (moved 14 c)
+moved_read (Err CommandRefusal.UnknownType) = Err CommandRefusal.UnknownType
+moved_read (Err CommandRefusal.Malformed) = Err CommandRefusal.Malformed
 
 -- the header, the command and where the parts lie; 10 and 11. (A section of 18 bytes has a header.)
-unfoldable pub accepted : HeaderRead → CommandRead → Frame → SectionRead
-accepted (HeaderRead.Header h) (CommandRead.Is c) f = SectionRead.Is (record { header = h; command = c; descriptors = f.descriptors; payload = f.command })
-accepted (HeaderRead.Header h) CommandRead.UnknownType f = SectionRead.Refused Refusal.UnknownCommand
-accepted (HeaderRead.Header h) CommandRead.Malformed f = SectionRead.Refused Refusal.MalformedCommand
-accepted HeaderRead.NoHeader r f = SectionRead.Refused Refusal.NoHeader
+unfoldable pub accepted : Option SpliceInfoHeader → Result SpliceCommand CommandRefusal → Frame → Result Section Refusal
+accepted (Some h) (Ok c) f = Ok (record { header = h; command = c; descriptors = f.descriptors; payload = f.command })
+accepted (Some h) (Err CommandRefusal.UnknownType) f = Err Refusal.UnknownCommand
+accepted (Some h) (Err CommandRefusal.Malformed) f = Err Refusal.MalformedCommand
+accepted option.None r f = Err Refusal.NoHeader
 
 -- a frame that is refused refuses the section
-abbrev pub through : FrameRead → HeaderRead → CommandRead → SectionRead
-through (FrameRead.Is f) h r = accepted h r f
-through (FrameRead.Refused x) h r = SectionRead.Refused x
+abbrev pub through : Result Frame Refusal → Option SpliceInfoHeader → Result SpliceCommand CommandRefusal → Result Section Refusal
+through (Ok f) h r = accepted h r f
+through (Err x) h r = Err x
 
 -- 1 to 9, and then 10 and 11
-unfoldable pub section_of : List ℕ → SectionRead
+unfoldable pub section_of : List ℕ → Result Section Refusal
 section_of s = through (frame_of s) (header_of (drop 3 s)) (moved_read (command_of (command_type s) (command_bytes s)))
 
 -- 01's number of each refusal; none has values
-unfoldable pub number_of : SectionRead → ℕ
-number_of (SectionRead.Is s) = 0
-number_of (SectionRead.Refused Refusal.SectionTooShort) = 1
-number_of (SectionRead.Refused Refusal.InputTooLong) = 2
-number_of (SectionRead.Refused Refusal.OtherTable) = 3
-number_of (SectionRead.Refused Refusal.WrongCrc) = 4
-number_of (SectionRead.Refused Refusal.NoHeader) = 5
-number_of (SectionRead.Refused Refusal.Encrypted) = 6
-number_of (SectionRead.Refused Refusal.CommandTooLong) = 7
-number_of (SectionRead.Refused Refusal.NoLoopLength) = 8
-number_of (SectionRead.Refused Refusal.LoopTooLong) = 9
-number_of (SectionRead.Refused Refusal.UnknownCommand) = 10
-number_of (SectionRead.Refused Refusal.MalformedCommand) = 11
+unfoldable pub number_of : Result Section Refusal → ℕ
+number_of (Ok s) = 0
+number_of (Err Refusal.SectionTooShort) = 1
+number_of (Err Refusal.InputTooLong) = 2
+number_of (Err Refusal.OtherTable) = 3
+number_of (Err Refusal.WrongCrc) = 4
+number_of (Err Refusal.NoHeader) = 5
+number_of (Err Refusal.Encrypted) = 6
+number_of (Err Refusal.CommandTooLong) = 7
+number_of (Err Refusal.NoLoopLength) = 8
+number_of (Err Refusal.LoopTooLong) = 9
+number_of (Err Refusal.UnknownCommand) = 10
+number_of (Err Refusal.MalformedCommand) = 11
 
 -- where a private command's bytes lie; any other command has none
 abbrev pub private_view : SpliceCommand → View

@@ -2,7 +2,7 @@
 ghost use Rattle.std.specs.Prelude.{◌≡◌};
 ghost use Rattle.section.specs.Full.{beside_command, full_section_of};
 
-use crate::{SectionRead, read_section};
+use crate::{Refusal, Section, read_section};
 use command::SpliceCommand;
 use command::components::{InsertComponent, MAX_COMPONENTS, blanks, read_components};
 use table::lent::view;
@@ -10,7 +10,7 @@ use table::lent::view;
 // The components are blank past their count, and all of them where the command is no insert by components.
 #[derive(Clone, Copy)]
 pub struct FullSection {
-    pub read: SectionRead,
+    pub read: Result<Section, Refusal>,
     pub components: [InsertComponent; MAX_COMPONENTS],
 }
 
@@ -36,11 +36,11 @@ pub fn read_full_section(section: &[u8]) -> FullSection
 {
     let read = read_section(section);
     match read {
-        SectionRead::Refused(_) => FullSection {
+        Err(_) => FullSection {
             read,
             components: blanks(),
         },
-        SectionRead::Is(x) => {
+        Ok(x) => {
             let command = x.command;
             let payload = x.payload;
             FullSection {

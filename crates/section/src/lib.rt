@@ -1,18 +1,17 @@
 // A section: header, command, and the place of its descriptor loop.
 #![tactic(auto)]
 
-ghost use Rattle.std.specs.Prelude.{◌≡◌, ◌+◌, ◌*◌, ◌<◌, ◌≤◌, length, drop};
+ghost use Rattle.std.specs.Prelude.{◌≡◌, ◌+◌, ◌*◌, ◌<◌, ◌≤◌, length, drop, Err};
 ghost use Rattle.section.specs.Section.{command_length, command_type, command_bytes, frame_in, moved, moved_read, accepted, frame_of, section_of, number_of, private_view};
-ghost use Rattle.section.specs.declared.SectionRead.{SectionRead};
 ghost use Rattle.table.specs.Lent.{viewed};
 ghost use Rattle.section.specs.Private.{view_start, layout_of};
 ghost use Rattle.table.specs.Bits.{bits_of, field};
 ghost use Rattle.command.specs.Command.{command_of};
 ghost use Rattle.header.specs.Header.{header_of};
 
-use command::{CommandRead, Private, SpliceCommand, read_command};
+use command::{CommandRefusal, Private, SpliceCommand, read_command};
 use crc::crc32;
-use header::header::{HeaderRead, SpliceInfoHeader, read_header};
+use header::header::{SpliceInfoHeader, read_header};
 use table::View;
 use table::lent::view;
 use table::numbers::wide;
@@ -58,7 +57,7 @@ pub enum Refusal {
 impl Refusal {
     // Document 01's number.
     pub fn number(self) -> u8
-        ensures { result ≡ number_of (SectionRead.Refused self) }
+        ensures { result ≡ number_of (Err self) }
     {
         match self {
             Refusal::SectionTooShort => 1,
@@ -81,19 +80,6 @@ impl Refusal {
 pub struct Frame {
     pub command: View,
     pub descriptors: View,
-}
-
-// Where the parts lie; or refusals 1 to 9, those that come before the command.
-#[derive(Clone, Copy)]
-pub enum FrameRead {
-    Is(Frame),
-    Refused(Refusal),
-}
-
-#[derive(Clone, Copy)]
-pub enum SectionRead {
-    Is(Section),
-    Refused(Refusal),
 }
 
 // A command whose views count from `base` bytes before it.
@@ -138,26 +124,26 @@ fn two_bytes(section: &[u8], at: usize) -> usize
 }
 
 // Refusals 6 to 9.
-fn read_layout(section: &[u8]) -> FrameRead
+fn read_layout(section: &[u8]) -> Result<Frame, Refusal>
     requires { (18 ≤ length section.now) × (length section.now ≤ 4096) }
     ensures { result ≡ layout_of section.now }
 {
     if 128 <= section[4] {
-        return FrameRead::Refused(Refusal::Encrypted);
+        return Err(Refusal::Encrypted);
     }
     let size = command_length(section);
     if section.len() - LEAST_WITH_HEADER < size {
-        return FrameRead::Refused(Refusal::CommandTooLong);
+        return Err(Refusal::CommandTooLong);
     }
     let room = section.len() - LEAST_WITH_HEADER - size;
     if room < 2 {
-        return FrameRead::Refused(Refusal::NoLoopLength);
+        return Err(Refusal::NoLoopLength);
     }
     let extent = two_bytes(section, COMMAND_AT + size);
     if room < extent + 2 {
-        return FrameRead::Refused(Refusal::LoopTooLong);
+        return Err(Refusal::LoopTooLong);
     }
-    FrameRead::Is(Frame {
+    Ok(Frame {
         command: View {
             at: COMMAND_AT,
             len: size,
@@ -171,29 +157,29 @@ fn read_layout(section: &[u8]) -> FrameRead
 
 // Refusals 1 to 9, in their order. A function of its own: its answers meet in `read_frame`, which is then so small that the compiler puts it in place of
 // its calls.
-fn test_frame(section: &[u8]) -> FrameRead
+fn test_frame(section: &[u8]) -> Result<Frame, Refusal>
     ensures { result ≡ frame_of section.now }
 {
     if section.len() < 3 {
-        return FrameRead::Refused(Refusal::SectionTooShort);
+        return Err(Refusal::SectionTooShort);
     }
     if MAX_SECTION < section.len() {
-        return FrameRead::Refused(Refusal::InputTooLong);
+        return Err(Refusal::InputTooLong);
     }
     if section[0] != 0xFC {
-        return FrameRead::Refused(Refusal::OtherTable);
+        return Err(Refusal::OtherTable);
     }
     if crc32(section) != 0 {
-        return FrameRead::Refused(Refusal::WrongCrc);
+        return Err(Refusal::WrongCrc);
     }
     if section.len() < LEAST_WITH_HEADER {
-        return FrameRead::Refused(Refusal::NoHeader);
+        return Err(Refusal::NoHeader);
     }
     read_layout(section)
 }
 
 // Where command and loop lie, in a section whose parts are all there. Only its command is still to be read.
-pub fn read_frame(section: &[u8]) -> FrameRead
+pub fn read_frame(section: &[u8]) -> Result<Frame, Refusal>
     ensures { result ≡ frame_of section.now }
 {
     test_frame(section)
@@ -203,48 +189,46 @@ pub fn read_frame(section: &[u8]) -> FrameRead
 
 // The command of a type, in its payload, as a section has it: its views count from the section's first byte, 14 bytes before the payload. The C boundary's:
 // it has one caller, so that no command is handed on by value.
-pub fn read_command_part(command_type: u8, payload: &[u8]) -> CommandRead
+pub fn read_command_part(command_type: u8, payload: &[u8]) -> Result<SpliceCommand, CommandRefusal>
     ensures { result ≡ moved_read (command_of command_type payload.now) }
 {
     match read_command(command_type, payload) {
-        CommandRead::Is(c) => CommandRead::Is(move_command(c, COMMAND_AT)),
-        CommandRead::UnknownType => CommandRead::UnknownType,
-        CommandRead::Malformed => CommandRead::Malformed,
+        Ok(c) => Ok(move_command(c, COMMAND_AT)),
+        Err(CommandRefusal::UnknownType) => Err(CommandRefusal::UnknownType),
+        Err(CommandRefusal::Malformed) => Err(CommandRefusal::Malformed),
     }
 }
 
 // The header and the command of a section whose parts are all there, beside its frame.
-fn read_parts(section: &[u8], frame: Frame) -> SectionRead
+fn read_parts(section: &[u8], frame: Frame) -> Result<Section, Refusal>
     requires { (frame ≡ frame_in section.now) × (16 + command_length section.now ≤ length section.now) }
     ensures { result ≡ accepted (header_of (drop 3 section.now)) (moved_read (command_of (command_type section.now) (command_bytes section.now))) (frame_in section.now) }
 {
     let header = match read_header(&section[3..]) {
-        HeaderRead::Header(h) => h,
-        HeaderRead::NoHeader => return SectionRead::Refused(Refusal::NoHeader),
+        Some(h) => h,
+        None => return Err(Refusal::NoHeader),
     };
     let payload = frame.command;
     let descriptors = frame.descriptors;
     let end = COMMAND_AT + payload.len;
     match read_command(section[COMMAND_TYPE_AT], &section[COMMAND_AT..end]) {
-        CommandRead::Is(c) => SectionRead::Is(Section {
+        Ok(c) => Ok(Section {
             header,
             command: move_command(c, COMMAND_AT),
             descriptors,
             payload,
         }),
-        CommandRead::UnknownType => SectionRead::Refused(Refusal::UnknownCommand),
-        CommandRead::Malformed => SectionRead::Refused(Refusal::MalformedCommand),
+        Err(CommandRefusal::UnknownType) => Err(Refusal::UnknownCommand),
+        Err(CommandRefusal::Malformed) => Err(Refusal::MalformedCommand),
     }
 }
 
 // The section in these bytes.
-pub fn read_section(section: &[u8]) -> SectionRead
+pub fn read_section(section: &[u8]) -> Result<Section, Refusal>
     ensures { result ≡ section_of section.now }
 {
-    match read_frame(section) {
-        FrameRead::Is(frame) => return read_parts(section, frame),
-        FrameRead::Refused(r) => return SectionRead::Refused(r),
-    }
+    let frame = read_frame(section)?;
+    read_parts(section, frame)
 }
 
 // The loop of a section, as a part of the lent bytes.

@@ -17,7 +17,6 @@ use Rattle.command_measure.specs.declared.Measured.{Measured}
 use Rattle.canonical_form.specs.Descriptor.{canonical_loop}
 use Rattle.header.specs.declared.header.SpliceInfoHeader.{SpliceInfoHeader}
 use Rattle.bit_stores.specs.Written.{answer_of, later_of, refusal_in, bytes_in}
-use Rattle.bit_stores.specs.declared.Written.{Written}
 use Rattle.bit_stores.proofs.Writes.{refused_answer, short_answer, wrote_answer}
 use Rattle.section.specs.Section.{first, section_length}
 use Rattle.table.specs.Bits.{pick}
@@ -31,6 +30,7 @@ use Rattle.section_writer.specs.Writing.{writer_conditions, unless, section_made
 use Rattle.section_writer.proofs.Frames.{length_frame}
 use Rattle.section_writer.proofs.Stored.{section_stored}
 use Rattle.section_writer.proofs.Trips.{tests_passed}
+use Rattle.std.proofs.Common.{Ok, Err, Result}
 
 unless_refused_lem : (n : ℕ) (b : List ℕ) → 0 < n → unless n b ≡ refused n
 unless_refused_lem zero b h = absurd (omega arith)
@@ -39,15 +39,15 @@ unless_refused_lem (suc n) b h = refl
 -- ---- the answer, by the first refusal that applies
 module _ (h : SpliceInfoHeader) (m : Measured) (loop : List ℕ) (room : ℕ) (k : Bool) (n : ℕ)
     (ek : k ≡ canonical_loop loop) (en : n ≡ first 31 (writer_conditions h m.refusal m.size (length loop) k)) where
-  pub refused_for : 0 < n → Written.Refused n ≡ answer_section h m loop room
+  pub refused_for : 0 < n → Err n ≡ answer_section h m loop room
   unfolding answer_section
   refused_for z = rw (← ek, ← en, ne_eqb n 0 (λ e. omega (arith, e, z)))
 
-  pub short_for : n ≤ 0 → room < section_length m.size (length loop) → Written.Refused 36 ≡ answer_section h m loop room
+  pub short_for : n ≤ 0 → room < section_length m.size (length loop) → Err 36 ≡ answer_section h m loop room
   unfolding answer_section
   short_for z l = rw (← ek, ← en, eq-eqb n 0 (omega arith), lt-leb (section_length m.size (length loop)) room l)
 
-  pub wrote_for : n ≤ 0 → section_length m.size (length loop) ≤ room → Written.Wrote (section_length m.size (length loop)) ≡ answer_section h m loop room
+  pub wrote_for : n ≤ 0 → section_length m.size (length loop) ≤ room → Ok (section_length m.size (length loop)) ≡ answer_section h m loop room
   unfolding answer_section
   wrote_for z l = rw (← ek, ← en, eq-eqb n 0 (omega arith), le-leb (section_length m.size (length loop)) room l)
 
@@ -89,19 +89,19 @@ module _ (h : SpliceInfoHeader) (c : SpliceCommand) (cs : List InsertComponent) 
   section_answer t = go (eqb n 0) refl (leb (section_length m.size (length loop)) (length t)) refl
     where
       go : (z : Bool) → eqb n 0 ≡ z → (f : Bool) → leb (section_length m.size (length loop)) (length t) ≡ f
-          → pick z (pick f (Written.Wrote (section_length m.size (length loop))) (Written.Refused 36)) (Written.Refused n) ≡ answer_of section t
+          → pick z (pick f (Ok (section_length m.size (length loop))) (Err 36)) (Err n) ≡ answer_of section t
       go false e f l = (refused_answer section t n (is_refused (let o = eqb-false n 0 e in omega (arith, o)))).0
       go true e false l = (short_answer section t (frame h (type_of c) payload loop) (is_made (eqb-true n 0 e)) (let o = leb-false (section_length m.size (length loop)) (length t) l in omega (arith, o, long))).0
       go true e true l = rw long at (wrote_answer section t (frame h (type_of c) payload loop) (is_made (eqb-true n 0 e)) (let o = leb-true (section_length m.size (length loop)) (length t) l in omega (arith, o, long))).0
 
   -- where the answer is that it is written
-  module _ (t : List ℕ) (r : Written) (k : ℕ) (is : r ≡ answer_section h m loop (length t)) (e : r ≡ Written.Wrote k) where
+  module _ (t : List ℕ) (r : Result ℕ ℕ) (k : ℕ) (is : r ≡ answer_section h m loop (length t)) (e : r ≡ Ok k) where
     no_refusal : (n ≡ 0) × (section_length m.size (length loop) ≤ length t)
     unfolding answer_section
     no_refusal = go (eqb n 0) refl (leb (section_length m.size (length loop)) (length t)) refl (sym is ∙ e)
       where
         go : (z : Bool) → eqb n 0 ≡ z → (f : Bool) → leb (section_length m.size (length loop)) (length t) ≡ f
-            → pick z (pick f (Written.Wrote (section_length m.size (length loop))) (Written.Refused 36)) (Written.Refused n) ≡ Written.Wrote k
+            → pick z (pick f (Ok (section_length m.size (length loop))) (Err 36)) (Err n) ≡ Ok k
             → (n ≡ 0) × (section_length m.size (length loop) ≤ length t)
         go false a f l w = zero_one cc
         go true a false l w = zero_one cc

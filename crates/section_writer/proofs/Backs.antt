@@ -11,7 +11,6 @@ use lib.Seq.{take-add, drop-drop, length-take-le, get_or-drop, drop-cons}
 use Rattle.crc.specs.Crc.{crc_of, crc_bytes_of}
 use Rattle.crc.proofs.Laws.{crc_last}
 use Rattle.header.specs.Header.{splice_header, header_of, header_read}
-use Rattle.header.specs.declared.header.HeaderRead.{HeaderRead}
 use Rattle.header.specs.declared.header.SpliceInfoHeader.{SpliceInfoHeader}
 use Rattle.header.proofs.Headers.{writable_header, header_got, header_read_write}
 use Rattle.names.specs.Algorithm.{algorithm_of}
@@ -25,6 +24,7 @@ use Rattle.table.proofs.Fields.{field_add, field_byte}
 use Rattle.table.proofs.Structure.{wrote, bytes_take, bytes_drop}
 use Rattle.section_writer.specs.Frame.{headed, header_bytes, opening, head, with_length, body, frame}
 use Rattle.section_writer.proofs.Numbers.{number_bytes, field_behind, field_front}
+use Rattle.std.proofs.Common.{Some}
 
 -- ---- the first three bytes
 pub opening_is : (n : ℕ) → n - 3 < 2 ^ 12 → opening n ≡ 0xfc ∷ big_endian 2 (0x3000 + (n - 3))
@@ -62,11 +62,11 @@ unfolding splice_header number bit
 no_views t x = refl
 
 -- eleven bytes are those of the header that they are read as
-header_again : (t : List ℕ) (x : SpliceInfoHeader) → AllBytes t → length t ≡ 11 → header_of t ≡ HeaderRead.Header x → t ≡ header_bytes x
+header_again : (t : List ℕ) (x : SpliceInfoHeader) → AllBytes t → length t ≡ 11 → header_of t ≡ Some x → t ≡ header_bytes x
 unfolding header_bytes
 header_again t x a n e = (wrote (writable_header x) t (walk splice_header x 0).fields t (header_read_write t x a n e)).bytes ∙ ap (λ l. bytes_of (print l)) (no_views t x)
 
-module _ (s : List ℕ) (a : AllBytes s) (long : 18 ≤ length s) (x : SpliceInfoHeader) (is : header_of (drop 3 s) ≡ HeaderRead.Header x) where
+module _ (s : List ℕ) (a : AllBytes s) (long : 18 ≤ length s) (x : SpliceInfoHeader) (is : header_of (drop 3 s) ≡ Some x) where
   abbrev tail : List ℕ
   tail = drop 3 s
 
@@ -88,7 +88,7 @@ module _ (s : List ℕ) (a : AllBytes s) (long : 18 ≤ length s) (x : SpliceInf
   pub own_is : own ≡ x
   unfolding header_of header_read
   own_is =
-      let e : HeaderRead.Header own ≡ HeaderRead.Header x = sym (ap header_read (header_got tail room)) ∙ is in
+      let e : Some own ≡ Some x = sym (ap header_read (header_got tail room)) ∙ is in
       cc
 
   type_is : command_type s ≡ field (bits_of tail) 80 8
@@ -133,7 +133,7 @@ module _ (s : List ℕ) (a : AllBytes s) (long : 18 ≤ length s) (short : lengt
   extent_again = sym (number_bytes s (14 + command_length s) 2 a (omega arith))
 
   pub frame_again : (x : SpliceInfoHeader) → get_or s 0 0 ≡ 0xfc → crc_of s ≡ 0 → field (bits_of s) 8 4 ≡ 3 → field (bits_of s) 12 12 ≡ length s - 3
-      → header_of (drop 3 s) ≡ HeaderRead.Header x → s ≡ frame x (command_type s) (command_bytes s) loop
+      → header_of (drop 3 s) ≡ Some x → s ≡ frame x (command_type s) (command_bytes s) loop
   unfolding frame body head with_length
   frame_again x first crc high low is =
       let n = command_length s in

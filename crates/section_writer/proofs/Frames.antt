@@ -13,19 +13,16 @@ use lib.ListN.{length, get_or, drop, length-append, length-drop, get_or-append}
 use lib.Seq.{take_at, drop_at, get_or-drop}
 use borrow.Author.Tests.{le-leb, eqb-false}
 use Rattle.command.specs.Command as command
-use Rattle.command.specs.declared.CommandRead.{CommandRead}
 use Rattle.command.specs.declared.SpliceCommand.{SpliceCommand}
 use Rattle.crc.specs.Crc.{crc_of, crc_bytes_of}
 use Rattle.crc.proofs.Laws.{crc_appended}
 use Rattle.header.specs.Header.{splice_header, header_of, header_read}
-use Rattle.header.specs.declared.header.HeaderRead.{HeaderRead}
 use Rattle.header.specs.declared.header.SpliceInfoHeader.{SpliceInfoHeader}
 use Rattle.header.proofs.Headers.{header_got, header_write_read}
 use Rattle.names.specs.Algorithm.{algorithm_of}
 use Rattle.names.specs.Command.{command_number, command_type_of}
 use Rattle.names.proofs.Commands.{command_laws}
 use Rattle.section.specs.Section.{command_length, command_type, command_bytes, loop_length, loop_place, frame_in, loop_bytes, moved, section_of, section_length}
-use Rattle.section.specs.declared.SectionRead.{SectionRead}
 use Rattle.section.proofs.Framing.{is_framed, has_parts, is_accepted, is_section}
 use Rattle.table.specs.Bits.{bits_of, field, big_endian, AllBytes}
 use Rattle.table.specs.Lent.{viewed}
@@ -38,6 +35,7 @@ use Rattle.table.proofs.Walks.{print_bits}
 use Rattle.section_writer.specs.Frame.{headed, header_bytes, opening, head, with_length, body, frame, numbers_fit, writable_head}
 use Rattle.section_writer.proofs.Heads.{fitting, clear, header_is_made, length_header, length_opening, length_head}
 use Rattle.section_writer.proofs.Numbers.{number_at, field_behind}
+use Rattle.std.proofs.Common.{Ok, Some}
 
 header_bytes_lem : (x : SpliceInfoHeader) → AllBytes (header_bytes x)
 unfolding header_bytes
@@ -98,7 +96,7 @@ module _ (h : SpliceInfoHeader) (command_type' : ℕ) (payload loop : List ℕ) 
         let m = header_is_made h (length payload) command_type' (fitting h fits) (clear h writable).1 (omega arith) byte in
         rw after_three (header_write_read [] x (header_bytes x) (payload ++ (with_length loop ++ crc)) m ∙ ap (λ (n : ℕ). got x (n * 8)) (length_header x))
 
-    pub frame_header : header_of (drop 3 (frame h command_type' payload loop)) ≡ HeaderRead.Header (headed h (length payload) command_type')
+    pub frame_header : header_of (drop 3 (frame h command_type' payload loop)) ≡ Some (headed h (length payload) command_type')
     unfolding header_of header_read
     frame_header = ap header_read header_parsed
 
@@ -182,13 +180,13 @@ module _ (h : SpliceInfoHeader) (command_type' : ℕ) (payload loop : List ℕ) 
         (take_at loop crc (length loop) refl)
 
     -- a frame is accepted, and is read as what it was made of
-    pub frame_accepted : (c : SpliceCommand) → command.command_of command_type' payload ≡ CommandRead.Is c
-        → section_of (frame h command_type' payload loop) ≡ SectionRead.Is (record { header = headed h (length payload) command_type'; command = moved 14 c; descriptors = record { at = 16 + length payload; len = length loop }; payload = record { at = 14; len = length payload } })
+    pub frame_accepted : (c : SpliceCommand) → command.command_of command_type' payload ≡ Ok c
+        → section_of (frame h command_type' payload loop) ≡ Ok (record { header = headed h (length payload) command_type'; command = moved 14 c; descriptors = record { at = 16 + length payload; len = length loop }; payload = record { at = 14; len = length payload } })
     frame_accepted c e =
         let s = frame h command_type' payload loop in
         let n : length s ≡ section_length (length payload) (length loop) = length_frame in
-        let k : command.command_of (command_type s) (command_bytes s) ≡ CommandRead.Is c = rw (frame_command_type, frame_command_bytes) e in
-        let r = SectionRead.Is (record { header = headed h (length payload) command_type'; command = moved 14 c; descriptors = record { at = 16 + length payload; len = length loop }; payload = record { at = 14; len = length payload } }) in
+        let k : command.command_of (command_type s) (command_bytes s) ≡ Ok c = rw (frame_command_type, frame_command_bytes) e in
+        let r = Ok (record { header = headed h (length payload) command_type'; command = moved 14 c; descriptors = record { at = 16 + length payload; len = length loop }; payload = record { at = 14; len = length payload } }) in
         sym
         (is_accepted s (frame_in s) r
         (is_framed s (omega arith) (omega arith) frame_first frame_crc _ (omega arith)

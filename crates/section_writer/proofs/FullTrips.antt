@@ -10,7 +10,6 @@ use Rattle.canonical_form.specs.Command.{canonical_command}
 use Rattle.command.specs.Command.{private, read, command_of}
 use Rattle.command.specs.Writable.{writable_insert}
 use Rattle.command.specs.Insert.{WithComponents, insert}
-use Rattle.command.specs.declared.CommandRead.{CommandRead}
 use Rattle.command.specs.declared.SpliceCommand.{SpliceCommand}
 use Rattle.command.specs.declared.components.InsertComponent.{InsertComponent}
 use Rattle.command.specs.declared.insert.SpliceInsert.{SpliceInsert}
@@ -30,6 +29,7 @@ use Rattle.section_writer.specs.Writing.{type_of, section_made}
 use Rattle.section_writer.proofs.Commands.{null_canonical, bandwidth_canonical, time_canonical, insert_canonical, private_canonical}
 use Rattle.section_writer.proofs.Theorems.{section_write_read, section_is_canonical}
 use Rattle.section_writer.proofs.Trips.{section_wrote}
+use Rattle.std.proofs.Common.{Ok}
 
 -- an insert's places hold as many components as its mode says
 abbrev pub Held : SpliceCommand → List InsertComponent → Type 0
@@ -40,7 +40,7 @@ Held SpliceCommand.BandwidthReservation cs = Unit {0}
 Held (SpliceCommand.PrivateCommand p) cs = Unit {0}
 
 pub command_write_read : (c : SpliceCommand) (cs : List InsertComponent) (lent b : List ℕ) → Held c cs → command_made c cs lent ≡ made b
-    → (command_of (type_of c) b ≡ CommandRead.Is (own_of c)) × (canonical_command (type_of c) b ≡ true)
+    → (command_of (type_of c) b ≡ Ok (own_of c)) × (canonical_command (type_of c) b ≡ true)
 unfolding command_made command_of
 command_write_read SpliceCommand.SpliceNull cs lent b h e =
     let n : [] ≡ b = cc in

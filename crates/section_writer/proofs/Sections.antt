@@ -9,10 +9,10 @@ use Rattle.canonical_form.specs.Command.{canonical_command}
 use Rattle.canonical_form.specs.Descriptor.{canonical_loop}
 use Rattle.section.specs.Section.{command_type, command_bytes, frame_of}
 use Rattle.section.specs.declared.Frame.{Frame}
-use Rattle.section.specs.declared.FrameRead.{FrameRead}
 use Rattle.section.proofs.Framing.{command_viewed, loop_viewed}
 use Rattle.table.specs.Lent.{viewed}
 use Rattle.canonical_form.specs.Section.{canonical_frame, canonical_section}
+use Rattle.std.proofs.Common.{Ok}
 
 -- ---- the canonical form
 pub unframed : (s : List ℕ) → false ≡ canonical_frame s → false ≡ canonical_section s
@@ -24,7 +24,7 @@ module _ (s : List ℕ) (f : Bool) (ef : f ≡ canonical_frame s) where
   unfolding canonical_section
   no_frame h = rw (← ef, not-true f h)
 
-  module _ (on : not f ≡ false) (p : Frame) (laid : FrameRead.Is p ≡ frame_of s) (c : Bool) (ec : c ≡ canonical_command (get_or s 13 0) (viewed s p.command)) where
+  module _ (on : not f ≡ false) (p : Frame) (laid : Ok p ≡ frame_of s) (c : Bool) (ec : c ≡ canonical_command (get_or s 13 0) (viewed s p.command)) where
     is_framed : canonical_frame s ≡ true
     is_framed = sym ef ∙ not-false f on
 

@@ -14,7 +14,6 @@ use lib.Dec.{eqb, ltb}
 use lib.ListN.{length, take, drop}
 use borrow.Author.Tests.{ltb-false, eqb-false, eq-eqb, ne_eqb, not-false, le-leb}
 use Rattle.command.specs.Command as command
-use Rattle.command.specs.declared.CommandRead.{CommandRead}
 use Rattle.command.specs.declared.SpliceCommand.{SpliceCommand}
 use Rattle.canonical_form.specs.Descriptor.{canonical_loop}
 use Rattle.header.specs.declared.header.SpliceInfoHeader.{SpliceInfoHeader}
@@ -22,7 +21,6 @@ use Rattle.names.proofs.Algorithms.{algorithm_laws}
 use Rattle.bit_stores.specs.Written.{refusal_in, bytes_in}
 use Rattle.section.specs.Section.{first, command_length, command_type, command_bytes, loop_length, loop_place, loop_bytes, moved, section_of, number_of, section_length}
 use Rattle.section.specs.declared.Section.{Section}
-use Rattle.section.specs.declared.SectionRead.{SectionRead}
 use Rattle.table.specs.Bits.{bits_of, field, big_endian, AllBytes}
 use Rattle.table.specs.Lent.{viewed}
 use Rattle.table.specs.Writing.{Made, made}
@@ -41,6 +39,7 @@ use Rattle.section_writer.proofs.Numbers.{number_at, field_behind}
 use Rattle.section.proofs.Parts.{Parts, parts_of_lem}
 use Rattle.section_writer.proofs.Refusals.{no_refusal}
 use Rattle.section_writer.proofs.Stored.{is_fitting, is_clear}
+use Rattle.std.proofs.Common.{Ok}
 
 -- ---- what was made, undone
 or_false : (a b : Bool) → a || b ≡ false → (a ≡ false) × (b ≡ false)
@@ -108,7 +107,7 @@ module _ (h : SpliceInfoHeader) (command_type' : ℕ) (payload loop : List ℕ) 
       ap (λ (l : List ℕ). field (bits_of l) 8 16) e ∙ number_at (0xfc ∷ []) r 1 2 (0x3000 + (n - 3)) refl (omega arith)
       ∙ ap (λ (m : ℕ). 0x3000 + (m - 3)) (sym (length_frame h command_type' payload loop))
 
-  pub frame_canonical : (c : SpliceCommand) → command.command_of command_type' payload ≡ CommandRead.Is c → canonical_frame (frame h command_type' payload loop) ≡ true
+  pub frame_canonical : (c : SpliceCommand) → command.command_of command_type' payload ≡ Ok c → canonical_frame (frame h command_type' payload loop) ≡ true
   unfolding canonical_frame number_of
   frame_canonical c e =
       let s = frame h command_type' payload loop in
@@ -127,8 +126,8 @@ module _ (h : SpliceInfoHeader) (command_type' : ℕ) (payload loop : List ℕ) 
 
 -- ---- what is written reads as what was handed in: the header with the command's length and type, the command, and the loop's bytes
 pub frame_write_read : (h : SpliceInfoHeader) (payload : List ℕ) (command_type' : ℕ) (loop b : List ℕ) (c : SpliceCommand) → command_type' < 2 ^ 8
-    → section_made h (made payload) command_type' loop ≡ made b → command.command_of command_type' payload ≡ CommandRead.Is c
-    → (section_of b ≡ SectionRead.Is (record { header = headed h (length payload) command_type'; command = moved 14 c; descriptors = record { at = 16 + length payload; len = length loop }; payload = record { at = 14; len = length payload } }))
+    → section_made h (made payload) command_type' loop ≡ made b → command.command_of command_type' payload ≡ Ok c
+    → (section_of b ≡ Ok (record { header = headed h (length payload) command_type'; command = moved 14 c; descriptors = record { at = 16 + length payload; len = length loop }; payload = record { at = 14; len = length payload } }))
     × (loop_bytes b ≡ loop)
     × (canonical_frame b ≡ true)
 unfolding bytes_in
@@ -162,7 +161,7 @@ module _ (s : List ℕ) (x : Section) (a : AllBytes s) (p : Parts s x) where
       rw (← e)
       (is_clear (own s a p.long x.header p.header) true (ne_eqb (field (bits_of tail) 8 1) 1 (λ z. p.clear (field_behind s 3 8 1 ∙ z))) (sym (algorithm_laws.is_writable (field (bits_of tail) 9 6))))
 
-pub section_is_frame : (s : List ℕ) (x : Section) → AllBytes s → section_of s ≡ SectionRead.Is x → canonical_frame s ≡ true
+pub section_is_frame : (s : List ℕ) (x : Section) → AllBytes s → section_of s ≡ Ok x → canonical_frame s ≡ true
     → s ≡ frame x.header (command_type s) (command_bytes s) (loop_bytes s)
 unfolding viewed loop_place
 section_is_frame s x a e c =
@@ -174,7 +173,7 @@ section_is_frame s x a e c =
     frame_again s a p.long p.short w.exact x.header p.first p.crc w.high w.low p.header in
     f ∙ ap (frame x.header (command_type s) (command_bytes s)) (sym l)
 
-pub frame_read_write : (s : List ℕ) (x : Section) → AllBytes s → section_of s ≡ SectionRead.Is x → canonical_frame s ≡ true → canonical_loop (loop_bytes s) ≡ true
+pub frame_read_write : (s : List ℕ) (x : Section) → AllBytes s → section_of s ≡ Ok x → canonical_frame s ≡ true → canonical_loop (loop_bytes s) ≡ true
     → section_made x.header (made (command_bytes s)) (command_type s) (loop_bytes s) ≡ made s
 unfolding section_made bytes_in
 frame_read_write s x a e c o =
@@ -194,7 +193,7 @@ headless h command_type' payload loop = refl
 same_frame : (h g : SpliceInfoHeader) (k j : ℕ) (p q l m : List ℕ) → headed h 0 0 ≡ headed g 0 0 → k ≡ j → p ≡ q → l ≡ m → frame h k p l ≡ frame g j q m
 same_frame h g k j p q l m e₁ e₂ e₃ e₄ = headless h k p l ∙ rw (e₁, e₂, e₃, e₄) (sym (headless g j q m))
 
-pub frame_one : (s r : List ℕ) (x y : Section) → AllBytes s → AllBytes r → section_of s ≡ SectionRead.Is x → section_of r ≡ SectionRead.Is y → canonical_frame s ≡ true → canonical_frame r ≡ true
+pub frame_one : (s r : List ℕ) (x y : Section) → AllBytes s → AllBytes r → section_of s ≡ Ok x → section_of r ≡ Ok y → canonical_frame s ≡ true → canonical_frame r ≡ true
     → headed x.header 0 0 ≡ headed y.header 0 0 → command_type s ≡ command_type r → command_bytes s ≡ command_bytes r → loop_bytes s ≡ loop_bytes r → s ≡ r
 frame_one s r x y a b e f c d h t p l =
     section_is_frame s x a e c

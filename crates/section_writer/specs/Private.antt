@@ -1,5 +1,5 @@
 -- For the contracts of private functions, and for proofs. No public contract cites this.
-use Rattle.std.specs.Prelude.{ℕ, ◌+◌, ◌*◌, ◌^◌, List, ◌++◌, ◌≡◌, length, drop}
+use Rattle.std.specs.Prelude.{ℕ, ◌+◌, ◌*◌, ◌^◌, List, ◌++◌, ◌≡◌, length, drop, Some, None, Option, Result}
 use Rattle.command.specs.Command.{private, by_type}
 use Rattle.command.specs.Insert.{insert}
 use Rattle.command_writer.specs.Private.{answer_measured}
@@ -8,10 +8,8 @@ use Rattle.crc.specs.Crc.{crc_bytes_of}
 use Rattle.canonical_form.specs.Descriptor.{canonical_loop}
 use Rattle.header.specs.Header.{header_of}
 use Rattle.splice_time.specs.Time.{splice_time}
-use Rattle.header.specs.declared.header.HeaderRead.{HeaderRead}
 use Rattle.header.specs.declared.header.SpliceInfoHeader.{SpliceInfoHeader}
 use Rattle.names.specs.Algorithm.{algorithm_number}
-use Rattle.bit_stores.specs.declared.Written.{Written}
 use Rattle.section.specs.Section.{first, command_type, command_bytes, section_length}
 use Rattle.table.specs.Bits.{bits_of}
 use Rattle.table.specs.Table.{Table, Answer, got, short, parse}
@@ -31,15 +29,15 @@ unfoldable pub tail : List ℕ → List ℕ → List ℕ
 tail before loop = with_length loop ++ crc_bytes_of (before ++ with_length loop)
 
 -- What is answered where the target has `room` bytes: of a header, of what the command measures, and of the loop.
-unfoldable pub answer_section : SpliceInfoHeader → Measured → List ℕ → ℕ → Written
+unfoldable pub answer_section : SpliceInfoHeader → Measured → List ℕ → ℕ → Result ℕ ℕ
 answer_section h m loop room = answer_measured (record { refusal = first 31 (writer_conditions h m.refusal m.size (length loop) (canonical_loop loop)); size = section_length m.size (length loop) }) room
 
 -- ---- equal readings, by the tables. "Equal readings means equal values and equal bytes in the views; the header's command length and type, the views' places and array places past a count are
 -- left out."
-abbrev pub SameHeaders : HeaderRead → HeaderRead → Type 0
-SameHeaders (HeaderRead.Header x) (HeaderRead.Header y) = headed x 0 0 ≡ headed y 0 0
-SameHeaders (HeaderRead.Header x) HeaderRead.NoHeader = ⊥
-SameHeaders HeaderRead.NoHeader r = ⊥
+abbrev pub SameHeaders : Option SpliceInfoHeader → Option SpliceInfoHeader → Type 0
+SameHeaders (Some x) (Some y) = headed x 0 0 ≡ headed y 0 0
+SameHeaders (Some x) None = ⊥
+SameHeaders None r = ⊥
 
 -- payloads p and q, each read by the table
 abbrev pub SameAnswers : {X : Type 0} → Table X → List ℕ → Answer X → List ℕ → Answer X → Type 0

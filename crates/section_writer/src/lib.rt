@@ -1,7 +1,7 @@
 // The section writer: header, command and loop as a section's bytes.
 #![tactic(auto)]
 
-ghost use Rattle.std.specs.Prelude.{◌≡◌, true, [], ◌+◌, ◌^◌, ◌<◌, ◌≤◌, length, take};
+ghost use Rattle.std.specs.Prelude.{◌≡◌, true, [], ◌+◌, ◌^◌, ◌<◌, ◌≤◌, length, take, Ok};
 ghost use Rattle.section_writer.specs.Frame.{head, numbers_fit, writable_head};
 ghost use Rattle.section.specs.Section.{section_length, first, frame_of};
 ghost use Rattle.canonical_form.specs.Section.{canonical_frame, canonical_section};
@@ -9,20 +9,19 @@ ghost use Rattle.command.specs.Command.{array};
 ghost use Rattle.command_measure.specs.Made.{command_made};
 ghost use Rattle.bit_stores.specs.Written.{answer_of, later_of};
 ghost use Rattle.section_writer.specs.Writing.{writer_conditions, type_of, section_made};
-ghost use Rattle.section.specs.declared.FrameRead.{FrameRead};
 ghost use Rattle.section_writer.specs.Private.{first_number, last_number, tail, answer_section};
 ghost use Rattle.table.specs.Lent.{stored};
 
-use bit_stores::Written;
 use command::components::{InsertComponent, MAX_COMPONENTS};
-use command::{CommandRead, SpliceCommand, read_command};
+use command::{CommandRefusal, SpliceCommand, read_command};
 use command_canonical::is_canonical_command;
 use command_measure::{Measured, measure_command, measure_without_components};
 use command_writer::{put_command, put_without_components};
 use crc::crc32;
 use descriptor_canonical::is_canonical_loop;
 use header::header::SpliceInfoHeader;
-use section::{COMMAND_AT, COMMAND_TYPE_AT, Frame, FrameRead, read_frame};
+use names::numbering::Numbered;
+use section::{COMMAND_AT, COMMAND_TYPE_AT, Frame, read_frame};
 use table::lent::view;
 use table::numbers::{bits, wide};
 use table::store::{put_bytes, put_number};
@@ -37,7 +36,7 @@ fn numbers_fit(header: SpliceInfoHeader) -> bool
     ensures { result ≡ numbers_fit header }
 {
     let algorithm = header.encryption_algorithm;
-    if 63 < algorithm.id() {
+    if 63 < u8::from(algorithm) {
         return false;
     }
     if 0x1_FFFF_FFFF < header.pts_adjustment {
@@ -100,7 +99,7 @@ fn first_number(header: SpliceInfoHeader) -> u64
     ensures { result ≡ first_number header }
 {
     let algorithm = header.encryption_algorithm;
-    (wide(header.protocol_version) * 128 + wide(algorithm.id())) * 0x2_0000_0000
+    (wide(header.protocol_version) * 128 + wide(algorithm.into())) * 0x2_0000_0000
         + header.pts_adjustment
 }
 
@@ -156,20 +155,20 @@ fn answer_section(
     measured: Measured,
     descriptors: &[u8],
     room: usize,
-) -> Written
+) -> Result<usize, u8>
     ensures { result ≡ answer_section header measured descriptors.now room }
 {
     let canonical = is_canonical_loop(descriptors);
     let extent = descriptors.len();
     let refusal = refusal_of(header, measured.refusal, measured.size, extent, canonical);
     if 0 < refusal {
-        return Written::Refused(refusal);
+        return Err(refusal);
     }
     let length = 20 + measured.size + extent;
     if room < length {
-        return Written::Refused(36);
+        return Err(36);
     }
-    Written::Wrote(length)
+    Ok(length)
 }
 
 // A section from the target's first byte on, or a refusal: 31 to 36. `lent` are the bytes that the command's views refer to. No byte is stored before the last
@@ -181,7 +180,7 @@ pub fn write_section(
     lent: &[u8],
     descriptors: &[u8],
     target: &mut [u8],
-) -> Written
+) -> Result<usize, u8>
     ensures answer { result ≡ answer_of (section_made header (command_made command components lent.now) (type_of command) descriptors.now) target.old }
     ensures bytes { target.new ≡ later_of (section_made header (command_made command components lent.now) (type_of command) descriptors.now) target.old }
 {
@@ -189,12 +188,12 @@ pub fn write_section(
     let size = measured.size;
     let answer = answer_section(header, measured, descriptors, target.len());
     match answer {
-        Written::Wrote(_) => {
+        Ok(_) => {
             put_head(target, header, type_of(command), size, descriptors.len());
             put_command(target, COMMAND_AT, command, components, lent);
             put_tail(target, COMMAND_AT + size, descriptors);
         }
-        Written::Refused(_) => {}
+        Err(_) => {}
     }
     answer
 }
@@ -206,7 +205,7 @@ pub fn write_section_without_components(
     lent: &[u8],
     descriptors: &[u8],
     target: &mut [u8],
-) -> Written
+) -> Result<usize, u8>
     ensures answer { result ≡ answer_of (section_made header (command_made command (array []) lent.now) (type_of command) descriptors.now) target.old }
     ensures bytes { target.new ≡ later_of (section_made header (command_made command (array []) lent.now) (type_of command) descriptors.now) target.old }
 {
@@ -214,12 +213,12 @@ pub fn write_section_without_components(
     let size = measured.size;
     let outcome = answer_section(header, measured, descriptors, target.len());
     match outcome {
-        Written::Wrote(_) => {
+        Ok(_) => {
             put_head(target, header, type_of(command), size, descriptors.len());
             put_without_components(target, COMMAND_AT, command, lent);
             put_tail(target, COMMAND_AT + size, descriptors);
         }
-        Written::Refused(_) => {}
+        Err(_) => {}
     }
     outcome
 }
@@ -228,15 +227,15 @@ pub fn write_section_without_components(
 
 // What the canonical form asks around command and loop of a section that has this frame.
 fn is_canonical_around(section: &[u8], frame: Frame) -> bool
-    requires { FrameRead.Is frame ≡ frame_of section.now }
+    requires { Ok frame ≡ frame_of section.now }
     ensures { result ≡ canonical_frame section.now }
 {
     let payload = frame.command;
     let end = COMMAND_AT + payload.len;
     match read_command(section[COMMAND_TYPE_AT], &section[COMMAND_AT..end]) {
-        CommandRead::Is(_) => {}
-        CommandRead::UnknownType => return false,
-        CommandRead::Malformed => return false,
+        Ok(_) => {}
+        Err(CommandRefusal::UnknownType) => return false,
+        Err(CommandRefusal::Malformed) => return false,
     }
     if bits(section, 1, 0, 4) != 0b0011 {
         return false;
@@ -256,8 +255,8 @@ pub fn is_canonical_frame(section: &[u8]) -> bool
     ensures { result ≡ canonical_frame section.now }
 {
     match read_frame(section) {
-        FrameRead::Is(frame) => return is_canonical_around(section, frame),
-        FrameRead::Refused(_) => return false,
+        Ok(frame) => return is_canonical_around(section, frame),
+        Err(_) => return false,
     }
 }
 
@@ -266,8 +265,8 @@ pub fn is_canonical_section(section: &[u8]) -> bool
     ensures { result ≡ canonical_section section.now }
 {
     let frame = match read_frame(section) {
-        FrameRead::Is(f) => f,
-        FrameRead::Refused(_) => return false,
+        Ok(f) => f,
+        Err(_) => return false,
     };
     if !is_canonical_around(section, frame) {
         return false;

@@ -12,6 +12,8 @@ use Rattle.table.specs.Bits.{pick, bits_of, field, AllBytes}
 use Rattle.table.specs.Cursor.{place, cursor_at}
 use Rattle.table.specs.Table.{done, Answer, got, short, parse, canonical}
 use Rattle.table.specs.Writing.{Same, made, make}
+use Rattle.table.specs.declared.cursor.Cursor.{Cursor}
+use Rattle.table.specs.declared.cursor.Field.{Field}
 use Rattle.table.specs.declared.cursor.Short.{Short}
 use Rattle.table.proofs.Fields.{field_in}
 use Rattle.table.proofs.Laws.{Tells}
@@ -21,34 +23,32 @@ use Rattle.table.proofs.Steppings.{Settled, place_of, settled_at}
 use Rattle.table.proofs.Steps.{takes_number, lacks_number, takes_flag, lacks_flag, takes_ones}
 use Rattle.table.proofs.Structure as laws
 use Rattle.table.proofs.Telling.{tells_number, tells_either, tells_ones}
-use Rattle.splice_time.specs.Time.{splice_time, specified, ticks, not_immediate, time_read, adjusted_of}
-use Rattle.splice_time.specs.declared.AdjustedTime.{AdjustedTime}
+use Rattle.splice_time.specs.Time.{splice_time, specified, ticks, not_immediate, time_read, adjusted_of, too_large}
 use Rattle.splice_time.specs.declared.SpliceTime.{SpliceTime}
 use Rattle.splice_time.specs.declared.SpliceTime.TheVariants.{Immediate, Unspecified, At}
-use Rattle.splice_time.specs.declared.TimeRead.{TimeRead}
-use Rattle.splice_time.specs.declared.Timed.{Timed}
+use Rattle.std.proofs.Common.{Ok, Err, Some, None}
 
 -- ---- a reader's answer, made and undone
-pub time_lacks : (r : Answer SpliceTime) (x : Short) → r ≡ short x.expected x.actual → TimeRead.Lacks x ≡ time_read r
+pub time_lacks : (r : Answer SpliceTime) (x : Short) → r ≡ short x.expected x.actual → Err x ≡ time_read r
 unfolding time_read
 time_lacks r x e = rw e
 
-pub timed_got : (r : Answer SpliceTime) (t : Timed) → TimeRead.Got t ≡ time_read r → (r ≡ got t.time (place t.next)) × Settled t.next
+pub timed_got : (r : Answer SpliceTime) (t : Field SpliceTime Cursor) → Ok t ≡ time_read r → (r ≡ got t.value (place t.next)) × Settled t.next
 unfolding time_read
 timed_got (got x m) t f =
-    let e : t.time ≡ x = cc in
+    let e : t.value ≡ x = cc in
     let c : t.next ≡ cursor_at m = cc in
     (rw (e, c, place_of m), rw c (settled_at m))
 timed_got (short e a) t f = zero_one cc
 
-pub timed_lacks : (r : Answer SpliceTime) (x : Short) → TimeRead.Lacks x ≡ time_read r → r ≡ short x.expected x.actual
+pub timed_lacks : (r : Answer SpliceTime) (x : Short) → Err x ≡ time_read r → r ≡ short x.expected x.actual
 unfolding time_read
 timed_lacks (got y m) x f = zero_one cc
 timed_lacks (short e a) x f = cc
 
 -- ---- a time that starts with byte i
 module _ (s : List ℕ) (i : ℕ) where
-  pub none_left : length s ≤ i → TimeRead.Lacks (record { expected = 0; actual = 0 }) ≡ time_read (parse splice_time (bits_of s) (i * 8))
+  pub none_left : length s ≤ i → Err (record { expected = 0; actual = 0 }) ≡ time_read (parse splice_time (bits_of s) (i * 8))
   unfolding splice_time
   none_left h =
       let z : (length s * 8 - i * 8) / 8 ≡ 0 = omega arith in
@@ -58,7 +58,7 @@ module _ (s : List ℕ) (i : ℕ) where
     first : field (bits_of s) (i * 8) 1 ≡ get_or s i 0 / 128 % 2
     first = ap (λ (p : ℕ). field (bits_of s) p 1) (sym (add-zero (i * 8))) ∙ field_in s i there byte 0 1 7 refl
 
-    pub aligned_unspecified : get_or s i 0 < 128 → TimeRead.Got (record { time = Unspecified; next = record { byte = i + 1; bit = 0 } }) ≡ time_read (parse splice_time (bits_of s) (i * 8))
+    pub aligned_unspecified : get_or s i 0 < 128 → Ok (record { value = Unspecified; next = record { byte = i + 1; bit = 0 } }) ≡ time_read (parse splice_time (bits_of s) (i * 8))
     unfolding splice_time time_read cursor_at
     aligned_unspecified h =
         let z : get_or s i 0 / 128 % 2 ≡ 0 = omega arith in
@@ -70,14 +70,14 @@ module _ (s : List ℕ) (i : ℕ) where
       set : eqb (field (bits_of s) (i * 8) 1) 1 ≡ true
       set = let z : get_or s i 0 / 128 % 2 ≡ 1 = omega arith in ap (λ (x : ℕ). eqb x 1) (first ∙ z)
 
-      pub aligned_short : (n : ℕ) → n ≡ length s - i → n < 5 → TimeRead.Lacks (record { expected = 4; actual = n - 1 }) ≡ time_read (parse splice_time (bits_of s) (i * 8))
+      pub aligned_short : (n : ℕ) → n ≡ length s - i → n < 5 → Err (record { expected = 4; actual = n - 1 }) ≡ time_read (parse splice_time (bits_of s) (i * 8))
       unfolding splice_time time_read
       aligned_short n e h =
           let z : (length s * 8 - (i * 8 + 1 + 6)) / 8 ≡ n - 1 = omega arith in
           rw (takes_flag s (i * 8) true _ _ (omega arith) set, takes_ones s (i * 8 + 1) 6 _ (omega arith), lacks_number s (i * 8 + 1 + 6) 33 ticks (λ t. done (At t)) (omega arith), z)
 
       pub aligned_at : (v : ℕ) → v ≡ field (bits_of s) (i * 8 + 7) 33 → i + 5 ≤ length s
-          → TimeRead.Got (record { time = At v; next = record { byte = i + 5; bit = 0 } }) ≡ time_read (parse splice_time (bits_of s) (i * 8))
+          → Ok (record { value = At v; next = record { byte = i + 5; bit = 0 } }) ≡ time_read (parse splice_time (bits_of s) (i * 8))
       unfolding splice_time time_read cursor_at
       aligned_at v e h =
           let p : i * 8 + 1 + 6 ≡ i * 8 + 7 = omega arith in
@@ -134,30 +134,30 @@ time_one s r x y a b p q c d h = laws.write_one splice_time structure s r x y a 
 
 -- ---- the adjusted time, case by case
 module _ (adjustment : ℕ) where
-  pub adjust_wide : (x : SpliceTime) → 2 ^ 33 ≤ adjustment → AdjustedTime.TooLarge ≡ adjusted_of x adjustment
+  pub adjust_wide : (x : SpliceTime) → 2 ^ 33 ≤ adjustment → Err too_large ≡ adjusted_of x adjustment
   unfolding adjusted_of
   adjust_wide x h = rw (le-ltb adjustment (2 ^ 33) h)
 
   module _ (narrow : adjustment < 2 ^ 33) where
-    pub adjust_none : (x : SpliceTime) → specified x ≡ false → ticks x ≡ 0 → AdjustedTime.Nothing ≡ adjusted_of x adjustment
+    pub adjust_none : (x : SpliceTime) → specified x ≡ false → ticks x ≡ 0 → Ok None ≡ adjusted_of x adjustment
     unfolding adjusted_of
     adjust_none x e z = rw (lt-ltb adjustment (2 ^ 33) narrow, z, e)
 
-    pub adjust_late : (x : SpliceTime) (t : ℕ) → x ≡ At t → 2 ^ 33 ≤ t → AdjustedTime.TooLarge ≡ adjusted_of x adjustment
+    pub adjust_late : (x : SpliceTime) (t : ℕ) → x ≡ At t → 2 ^ 33 ≤ t → Err too_large ≡ adjusted_of x adjustment
     unfolding adjusted_of
     adjust_late x t e h = rw (e, lt-ltb adjustment (2 ^ 33) narrow, le-ltb t (2 ^ 33) h)
 
-    pub adjust_at : (x : SpliceTime) (t : ℕ) → x ≡ At t → t < 2 ^ 33 → AdjustedTime.At ((t + adjustment) % 8589934592) ≡ adjusted_of x adjustment
+    pub adjust_at : (x : SpliceTime) (t : ℕ) → x ≡ At t → t < 2 ^ 33 → Ok (Some ((t + adjustment) % 8589934592)) ≡ adjusted_of x adjustment
     unfolding adjusted_of
     adjust_at x t e h = rw (e, lt-ltb adjustment (2 ^ 33) narrow, lt-ltb t (2 ^ 33) h)
 
 -- what is answered has 33 bits
-pub adjusted_below : (t : SpliceTime) (adjustment n : ℕ) → adjusted_of t adjustment ≡ AdjustedTime.At n → n < 2 ^ 33
+pub adjusted_below : (t : SpliceTime) (adjustment n : ℕ) → adjusted_of t adjustment ≡ Ok (Some n) → n < 2 ^ 33
 unfolding adjusted_of
 adjusted_below t adjustment n e = go (ltb adjustment (2 ^ 33)) (ltb (ticks t) (2 ^ 33)) (specified t) e
   where
     go : (fits small there : Bool)
-        → pick fits (pick small (pick there (AdjustedTime.At ((ticks t + adjustment) % 8589934592)) AdjustedTime.Nothing) AdjustedTime.TooLarge) AdjustedTime.TooLarge ≡ AdjustedTime.At n
+        → pick fits (pick small (pick there (Ok (Some ((ticks t + adjustment) % 8589934592))) (Ok None)) (Err too_large)) (Err too_large) ≡ Ok (Some n)
         → n < 2 ^ 33
     go true true true e =
         let k : n ≡ (ticks t + adjustment) % 8589934592 = cc in
@@ -167,18 +167,18 @@ adjusted_below t adjustment n e = go (ltb adjustment (2 ^ 33)) (ltb (ticks t) (2
     go false small there e = zero_one cc
 
 -- where nothing is carried the adjusted time is the sum
-pub adjusted_sum : (t adjustment : ℕ) → t + adjustment < 2 ^ 33 → adjusted_of (At t) adjustment ≡ AdjustedTime.At (t + adjustment)
-adjusted_sum t adjustment h = sym (adjust_at adjustment (omega arith) (At t) t refl (omega arith)) ∙ ap AdjustedTime.At (mod-eq_of_lt h)
+pub adjusted_sum : (t adjustment : ℕ) → t + adjustment < 2 ^ 33 → adjusted_of (At t) adjustment ≡ Ok (Some (t + adjustment))
+adjusted_sum t adjustment h = sym (adjust_at adjustment (omega arith) (At t) t refl (omega arith)) ∙ ap (λ x. Ok (Some x)) (mod-eq_of_lt h)
 
-pub adjusted_none : (adjustment : ℕ) → adjustment < 2 ^ 33 → (adjusted_of Unspecified adjustment ≡ AdjustedTime.Nothing) × (adjusted_of Immediate adjustment ≡ AdjustedTime.Nothing)
+pub adjusted_none : (adjustment : ℕ) → adjustment < 2 ^ 33 → (adjusted_of Unspecified adjustment ≡ Ok None) × (adjusted_of Immediate adjustment ≡ Ok None)
 adjusted_none adjustment h = (sym (adjust_none adjustment h Unspecified refl refl), sym (adjust_none adjustment h Immediate refl refl))
 
-pub adjusted_wide : (t adjustment : ℕ) → (2 ^ 33 ≤ adjustment → (x : SpliceTime) → adjusted_of x adjustment ≡ AdjustedTime.TooLarge)
-    × (adjustment < 2 ^ 33 → 2 ^ 33 ≤ t → adjusted_of (At t) adjustment ≡ AdjustedTime.TooLarge)
+pub adjusted_wide : (t adjustment : ℕ) → (2 ^ 33 ≤ adjustment → (x : SpliceTime) → adjusted_of x adjustment ≡ Err too_large)
+    × (adjustment < 2 ^ 33 → 2 ^ 33 ≤ t → adjusted_of (At t) adjustment ≡ Err too_large)
 adjusted_wide t adjustment = (λ h x. sym (adjust_wide adjustment x h), λ h w. sym (adjust_late adjustment h (At t) t refl w))
 
 -- 02's row and its neighbours
-pub adjusted_wraps : (adjusted_of (At 8589934591) 1 ≡ AdjustedTime.At 0) × (adjusted_of (At 8589934591) 0 ≡ AdjustedTime.At 8589934591)
-    × (adjusted_of (At 8589934591) 8589934591 ≡ AdjustedTime.At 8589934590)
+pub adjusted_wraps : (adjusted_of (At 8589934591) 1 ≡ Ok (Some 0)) × (adjusted_of (At 8589934591) 0 ≡ Ok (Some 8589934591))
+    × (adjusted_of (At 8589934591) 8589934591 ≡ Ok (Some 8589934590))
 unfolding adjusted_of
 adjusted_wraps = (refl, refl, refl)

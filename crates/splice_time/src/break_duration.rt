@@ -6,32 +6,13 @@ ghost use Rattle.table.specs.Bits.{pick, bits_of};
 ghost use Rattle.table.specs.Table.{parse};
 
 use names::flags::ReturnMode;
-use table::cursor::Short;
+use table::cursor::{Field, Short};
 use table::numbers::{time33, wide};
 
 #[derive(Clone, Copy)]
 pub struct SpliceDuration {
     pub return_mode: ReturnMode,
     pub duration: u64,
-}
-
-#[derive(Clone, Copy)]
-pub enum Break {
-    Absent,
-    Lasts(SpliceDuration),
-}
-
-// A duration and the place of the byte after it: it starts and ends with a byte.
-#[derive(Clone, Copy)]
-pub struct Broken {
-    pub duration: Break,
-    pub next: usize,
-}
-
-#[derive(Clone, Copy)]
-pub enum BreakRead {
-    Got(Broken),
-    Lacks(Short),
 }
 
 fn returning(automatic: bool) -> ReturnMode
@@ -43,25 +24,25 @@ fn returning(automatic: bool) -> ReturnMode
     ReturnMode::Manual
 }
 
-fn read_lasting(s: &[u8], at: usize) -> BreakRead
+fn read_lasting(s: &[u8], at: usize) -> Result<Field<Option<SpliceDuration>, usize>, Short>
     ensures { result ≡ break_read (parse (break_duration true) (bits_of s.now) (at * 8)) }
 {
     if s.len() <= at {
-        return BreakRead::Lacks(Short {
+        return Err(Short {
             expected: 0,
             actual: 0,
         });
     }
     let left = s.len() - at;
     if left < 5 {
-        return BreakRead::Lacks(Short {
+        return Err(Short {
             expected: 4,
             actual: left - 1,
         });
     }
     let first = wide(s[at]);
-    BreakRead::Got(Broken {
-        duration: Break::Lasts(SpliceDuration {
+    Ok(Field {
+        value: Some(SpliceDuration {
             return_mode: returning(first / 128 == 1),
             duration: time33(s, at),
         }),
@@ -69,15 +50,19 @@ fn read_lasting(s: &[u8], at: usize) -> BreakRead
     })
 }
 
-// A break_duration() if it is flagged.
-pub fn read_break(s: &[u8], at: usize, flagged: bool) -> BreakRead
+// A break_duration() if it is flagged, and the place of the byte after it: it starts and ends with a byte.
+pub fn read_break(
+    s: &[u8],
+    at: usize,
+    flagged: bool,
+) -> Result<Field<Option<SpliceDuration>, usize>, Short>
     ensures { result ≡ break_read (parse (break_duration flagged) (bits_of s.now) (at * 8)) }
 {
     if flagged {
         return read_lasting(s, at);
     }
-    BreakRead::Got(Broken {
-        duration: Break::Absent,
+    Ok(Field {
+        value: None,
         next: at,
     })
 }

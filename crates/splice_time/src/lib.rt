@@ -6,7 +6,7 @@ ghost use Rattle.splice_time.specs.Time.{splice_time, time_read, adjusted_of};
 ghost use Rattle.table.specs.Bits.{bits_of};
 ghost use Rattle.table.specs.Table.{parse};
 
-use table::cursor::{Cursor, Short};
+use table::cursor::{Cursor, Field, Short};
 use table::numbers::time33;
 
 pub mod break_duration;
@@ -19,32 +19,19 @@ pub enum SpliceTime {
     At(u64),
 }
 
-// A time and the cursor after it.
-#[derive(Clone, Copy)]
-pub struct Timed {
-    pub time: SpliceTime,
-    pub next: Cursor,
-}
-
-#[derive(Clone, Copy)]
-pub enum TimeRead {
-    Got(Timed),
-    Lacks(Short),
-}
-
-// The splice_time() that starts with a byte, as all of the standard's do.
-pub fn read_aligned_time(s: &[u8], at: usize) -> TimeRead
+// The splice_time() that starts with a byte, as all of the standard's do, and the cursor after it.
+pub fn read_aligned_time(s: &[u8], at: usize) -> Result<Field<SpliceTime, Cursor>, Short>
     ensures { result ≡ time_read (parse splice_time (bits_of s.now) (at * 8)) }
 {
     if s.len() <= at {
-        return TimeRead::Lacks(Short {
+        return Err(Short {
             expected: 0,
             actual: 0,
         });
     }
     if s[at] < 128 {
-        return TimeRead::Got(Timed {
-            time: SpliceTime::Unspecified,
+        return Ok(Field {
+            value: SpliceTime::Unspecified,
             next: Cursor {
                 byte: at + 1,
                 bit: 0,
@@ -53,13 +40,13 @@ pub fn read_aligned_time(s: &[u8], at: usize) -> TimeRead
     }
     let left = s.len() - at;
     if left < 5 {
-        return TimeRead::Lacks(Short {
+        return Err(Short {
             expected: 4,
             actual: left - 1,
         });
     }
-    TimeRead::Got(Timed {
-        time: SpliceTime::At(time33(s, at)),
+    Ok(Field {
+        value: SpliceTime::At(time33(s, at)),
         next: Cursor {
             byte: at + 5,
             bit: 0,
@@ -67,29 +54,25 @@ pub fn read_aligned_time(s: &[u8], at: usize) -> TimeRead
     })
 }
 
-// A time with its adjustment, none where no time is specified, or refusal 32.
-#[derive(Clone, Copy)]
-pub enum AdjustedTime {
-    At(u64),
-    Nothing,
-    TooLarge,
-}
+// Refusal 32: a number that exceeds its field.
+#[derive(Clone, Copy, Debug, PartialEq, Eq)]
+pub struct TooLarge;
 
-// The time plus the adjustment, of which each has 33 bits; the carry out of the 33 bits is ignored.
-pub fn adjusted_time(time: SpliceTime, pts_adjustment: u64) -> AdjustedTime
+// The time plus the adjustment, of which each has 33 bits; the carry out of the 33 bits is ignored. None where no time is specified.
+pub fn adjusted_time(time: SpliceTime, pts_adjustment: u64) -> Result<Option<u64>, TooLarge>
     ensures { result ≡ adjusted_of time pts_adjustment }
 {
     if 0x1_FFFF_FFFF < pts_adjustment {
-        return AdjustedTime::TooLarge;
+        return Err(TooLarge);
     }
     match time {
-        SpliceTime::Immediate => AdjustedTime::Nothing,
-        SpliceTime::Unspecified => AdjustedTime::Nothing,
+        SpliceTime::Immediate => Ok(None),
+        SpliceTime::Unspecified => Ok(None),
         SpliceTime::At(ticks) => {
             if 0x1_FFFF_FFFF < ticks {
-                return AdjustedTime::TooLarge;
+                return Err(TooLarge);
             }
-            AdjustedTime::At((ticks + pts_adjustment) % 0x2_0000_0000)
+            Ok(Some((ticks + pts_adjustment) % 0x2_0000_0000))
         }
     }
 }

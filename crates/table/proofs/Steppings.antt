@@ -14,18 +14,13 @@ use Rattle.table.specs.Cursor.{place, cursor_at, taken_of, flagged_of, skipped_o
 use Rattle.table.specs.Table.{done, Answer, got, short, number, bit, reserved, part, parse}
 use Rattle.table.specs.declared.View.{View}
 use Rattle.table.specs.declared.cursor.Cursor.{Cursor}
-use Rattle.table.specs.declared.cursor.Flag.{Flag}
-use Rattle.table.specs.declared.cursor.Flagged.{Flagged}
-use Rattle.table.specs.declared.cursor.Number.{Number}
-use Rattle.table.specs.declared.cursor.Passed.{Passed}
-use Rattle.table.specs.declared.cursor.Run.{Run}
+use Rattle.table.specs.declared.cursor.Field.{Field}
 use Rattle.table.specs.declared.cursor.Short.{Short}
-use Rattle.table.specs.declared.cursor.Skipped.{Skipped}
-use Rattle.table.specs.declared.cursor.Taken.{Taken}
 use Rattle.table.proofs.Bits.{length_bits}
 use Rattle.table.proofs.Laws.{field_there}
 use Rattle.table.proofs.Lists.{zero_one}
 use Rattle.table.proofs.Reading.{field_lt, field_exact}
+use Rattle.std.proofs.Common.{Ok, Err}
 
 -- ---- one field, from bit `at` on
 module _ (s : List ℕ) (at : ℕ) where
@@ -69,24 +64,24 @@ module _ (s : List ℕ) (c : Cursor) where
   left_is n e = e
 
   pub take_lacks : (w a : ℕ) → length s * 8 < c.byte * 8 + c.bit + w → a ≡ (length s * 8 - place c) / 8
-      → Taken.Lacks (record { expected = w / 8; actual = a }) ≡ taken_of (parse (number w) (bits_of s) (place c))
+      → Err (record { expected = w / 8; actual = a }) ≡ taken_of (parse (number w) (bits_of s) (place c))
   unfolding taken_of place
   take_lacks w a h e = rw (number_short s (c.byte * 8 + c.bit) w h, e)
 
   pub take_got : (w v i j : ℕ) → c.byte * 8 + c.bit + w ≤ length s * 8 → v ≡ field (bits_of s) (c.byte * 8 + c.bit) w % 2 ^ 64
       → i ≡ (c.byte * 8 + c.bit + w) / 8 → j ≡ (c.byte * 8 + c.bit + w) % 8
-      → Taken.Got (record { value = v; next = record { byte = i; bit = j } }) ≡ taken_of (parse (number w) (bits_of s) (place c))
+      → Ok (record { value = v; next = record { byte = i; bit = j } }) ≡ taken_of (parse (number w) (bits_of s) (place c))
   unfolding taken_of place cursor_at
   take_got w v i j h e f g = rw (number_there s (c.byte * 8 + c.bit) w h, e, f, g)
 
   pub pass_lacks : (n : ℕ) → length s * 8 < c.byte * 8 + c.bit + n * 8
-      → Passed.Lacks (record { expected = 1; actual = 0 }) ≡ passed_of (parse (part n) (bits_of s) (place c))
+      → Err (record { expected = 1; actual = 0 }) ≡ passed_of (parse (part n) (bits_of s) (place c))
   unfolding passed_of place
   pass_lacks n h = rw (part_short s (c.byte * 8 + c.bit) n h)
 
   pub pass_got : (n i k j : ℕ) → c.byte * 8 + c.bit + n * 8 ≤ length s * 8 → i ≡ (c.byte * 8 + c.bit) / 8
       → k ≡ (c.byte * 8 + c.bit + n * 8) / 8 → j ≡ (c.byte * 8 + c.bit + n * 8) % 8
-      → Passed.Got (record { bytes = record { at = i; len = n }; next = record { byte = k; bit = j } }) ≡ passed_of (parse (part n) (bits_of s) (place c))
+      → Ok (record { value = record { at = i; len = n }; next = record { byte = k; bit = j } }) ≡ passed_of (parse (part n) (bits_of s) (place c))
   unfolding passed_of place cursor_at
   pass_got n i k j h e f g = rw (part_there s (c.byte * 8 + c.bit) n h, e, f, g)
 
@@ -113,7 +108,7 @@ exact s w at h v m e =
     let z : field (bits_of s) at w ≡ v = cc in
     rw (← z) (field_exact s at w h)
 
-number_got : (r : Answer ℕ) (n : Number) → Exact r → Taken.Got n ≡ taken_of r → (r ≡ got n.value (place n.next)) × Settled n.next
+number_got : (r : Answer ℕ) (n : Field ℕ Cursor) → Exact r → Ok n ≡ taken_of r → (r ≡ got n.value (place n.next)) × Settled n.next
 unfolding taken_of
 number_got (got v m) n h f =
     let a : n.value ≡ v % 2 ^ 64 = cc in
@@ -122,63 +117,63 @@ number_got (got v m) n h f =
 number_got (short e a) n h f = zero_one cc
 
 -- a number of at most 64 bits
-pub taken_got : (s : List ℕ) (w at : ℕ) (n : Number) → w ≤ 64 → Taken.Got n ≡ taken_of (parse (number w) (bits_of s) at)
+pub taken_got : (s : List ℕ) (w at : ℕ) (n : Field ℕ Cursor) → w ≤ 64 → Ok n ≡ taken_of (parse (number w) (bits_of s) at)
     → (parse (number w) (bits_of s) at ≡ got n.value (place n.next)) × Settled n.next
 taken_got s w at n h f = number_got (parse (number w) (bits_of s) at) n (exact s w at h) f
 
-pub taken_lt : (s : List ℕ) (w at : ℕ) (n : Number) → w ≤ 64 → Taken.Got n ≡ taken_of (parse (number w) (bits_of s) at) → n.value < 2 ^ w
+pub taken_lt : (s : List ℕ) (w at : ℕ) (n : Field ℕ Cursor) → w ≤ 64 → Ok n ≡ taken_of (parse (number w) (bits_of s) at) → n.value < 2 ^ w
 unfolding number
 taken_lt s w at n h f =
     let i = field_there w (λ (v : ℕ). v) done (bits_of s) at n.value (place n.next) (taken_got s w at n h f).0 in
     let z : field (bits_of s) at w ≡ n.value = cc in
     rw (← z) (field_lt s at w)
 
-pub taken_lacks : (r : Answer ℕ) (x : Short) → Taken.Lacks x ≡ taken_of r → r ≡ short x.expected x.actual
+pub taken_lacks : (r : Answer ℕ) (x : Short) → Err x ≡ taken_of r → r ≡ short x.expected x.actual
 unfolding taken_of
 taken_lacks (got v m) x f = zero_one cc
 taken_lacks (short e a) x f = cc
 
-pub flagged_got : (r : Answer Bool) (y : Flag) → Flagged.Got y ≡ flagged_of r → (r ≡ got y.set (place y.next)) × Settled y.next
+pub flagged_got : (r : Answer Bool) (y : Field Bool Cursor) → Ok y ≡ flagged_of r → (r ≡ got y.value (place y.next)) × Settled y.next
 unfolding flagged_of
 flagged_got (got b m) y f =
-    let v : y.set ≡ b = cc in
+    let v : y.value ≡ b = cc in
     let c : y.next ≡ cursor_at m = cc in
     (rw (v, c, place_of m), rw c (settled_at m))
 flagged_got (short e a) y f = zero_one cc
 
-pub flagged_lacks : (r : Answer Bool) (x : Short) → Flagged.Lacks x ≡ flagged_of r → r ≡ short x.expected x.actual
+pub flagged_lacks : (r : Answer Bool) (x : Short) → Err x ≡ flagged_of r → r ≡ short x.expected x.actual
 unfolding flagged_of
 flagged_lacks (got b m) x f = zero_one cc
 flagged_lacks (short e a) x f = cc
 
-pub skipped_got : (r : Answer (Unit {0})) (c : Cursor) → Skipped.Got c ≡ skipped_of r → (r ≡ got tt (place c)) × Settled c
+pub skipped_got : (r : Answer (Unit {0})) (c : Cursor) → Ok c ≡ skipped_of r → (r ≡ got tt (place c)) × Settled c
 unfolding skipped_of
 skipped_got (got u m) c f =
     let e : c ≡ cursor_at m = cc in
     (rw (e, place_of m), rw e (settled_at m))
 skipped_got (short e a) c f = zero_one cc
 
-pub skipped_lacks : (r : Answer (Unit {0})) (x : Short) → Skipped.Lacks x ≡ skipped_of r → r ≡ short x.expected x.actual
+pub skipped_lacks : (r : Answer (Unit {0})) (x : Short) → Err x ≡ skipped_of r → r ≡ short x.expected x.actual
 unfolding skipped_of
 skipped_lacks (got u m) x f = zero_one cc
 skipped_lacks (short e a) x f = cc
 
-pub passed_got : (r : Answer View) (y : Run) → Passed.Got y ≡ passed_of r → (r ≡ got y.bytes (place y.next)) × Settled y.next
+pub passed_got : (r : Answer View) (y : Field View Cursor) → Ok y ≡ passed_of r → (r ≡ got y.value (place y.next)) × Settled y.next
 unfolding passed_of
 passed_got (got v m) y f =
-    let e : y.bytes ≡ v = cc in
+    let e : y.value ≡ v = cc in
     let c : y.next ≡ cursor_at m = cc in
     (rw (e, c, place_of m), rw c (settled_at m))
 passed_got (short e a) y f = zero_one cc
 
-pub passed_lacks : (r : Answer View) (x : Short) → Passed.Lacks x ≡ passed_of r → r ≡ short x.expected x.actual
+pub passed_lacks : (r : Answer View) (x : Short) → Err x ≡ passed_of r → r ≡ short x.expected x.actual
 unfolding passed_of
 passed_lacks (got v m) x f = zero_one cc
 passed_lacks (short e a) x f = cc
 
 -- ---- for the steps that rest on `take`
-flag_re : (r : Answer ℕ) (n : Number) → Exact r → Taken.Got n ≡ taken_of r
-    → Flagged.Got (record { set = eqb n.value 1; next = n.next }) ≡ flagged_of (re (λ (v : ℕ). eqb v 1) r)
+flag_re : (r : Answer ℕ) (n : Field ℕ Cursor) → Exact r → Ok n ≡ taken_of r
+    → Ok (record { value = eqb n.value 1; next = n.next }) ≡ flagged_of (re (λ (v : ℕ). eqb v 1) r)
 unfolding taken_of flagged_of
 flag_re (got v m) n h f =
     let a : n.value ≡ v % 2 ^ 64 = cc in
@@ -186,23 +181,23 @@ flag_re (got v m) n h f =
     rw (a, c, h v m refl)
 flag_re (short e a) n h f = zero_one cc
 
-skip_re : (r : Answer ℕ) (n : Number) → Taken.Got n ≡ taken_of r → Skipped.Got n.next ≡ skipped_of (re (λ (v : ℕ). tt) r)
+skip_re : (r : Answer ℕ) (n : Field ℕ Cursor) → Ok n ≡ taken_of r → Ok n.next ≡ skipped_of (re (λ (v : ℕ). tt) r)
 unfolding taken_of skipped_of
 skip_re (got v m) n f = cc
 skip_re (short e a) n f = zero_one cc
 
 module _ (s : List ℕ) (at : ℕ) where
-  pub flag_got : (n : Number) → Taken.Got n ≡ taken_of (parse (number 1) (bits_of s) at)
-      → Flagged.Got (record { set = eqb n.value 1; next = n.next }) ≡ flagged_of (parse bit (bits_of s) at)
+  pub flag_got : (n : Field ℕ Cursor) → Ok n ≡ taken_of (parse (number 1) (bits_of s) at)
+      → Ok (record { value = eqb n.value 1; next = n.next }) ≡ flagged_of (parse bit (bits_of s) at)
   flag_got n f = rw (bit_number (bits_of s) at) (flag_re (parse (number 1) (bits_of s) at) n (exact s 1 at (omega arith)) f)
 
-  pub flag_lacks : (x : Short) → Taken.Lacks x ≡ taken_of (parse (number 1) (bits_of s) at) → Flagged.Lacks x ≡ flagged_of (parse bit (bits_of s) at)
+  pub flag_lacks : (x : Short) → Err x ≡ taken_of (parse (number 1) (bits_of s) at) → Err x ≡ flagged_of (parse bit (bits_of s) at)
   unfolding flagged_of
   flag_lacks x f = rw (bit_number (bits_of s) at, taken_lacks (parse (number 1) (bits_of s) at) x f)
 
-  pub skip_got : (w : ℕ) (n : Number) → Taken.Got n ≡ taken_of (parse (number w) (bits_of s) at) → Skipped.Got n.next ≡ skipped_of (parse (reserved w) (bits_of s) at)
+  pub skip_got : (w : ℕ) (n : Field ℕ Cursor) → Ok n ≡ taken_of (parse (number w) (bits_of s) at) → Ok n.next ≡ skipped_of (parse (reserved w) (bits_of s) at)
   skip_got w n f = rw (reserved_number w (bits_of s) at) (skip_re (parse (number w) (bits_of s) at) n f)
 
-  pub skip_lacks : (w : ℕ) (x : Short) → Taken.Lacks x ≡ taken_of (parse (number w) (bits_of s) at) → Skipped.Lacks x ≡ skipped_of (parse (reserved w) (bits_of s) at)
+  pub skip_lacks : (w : ℕ) (x : Short) → Err x ≡ taken_of (parse (number w) (bits_of s) at) → Err x ≡ skipped_of (parse (reserved w) (bits_of s) at)
   unfolding skipped_of
   skip_lacks w x f = rw (reserved_number w (bits_of s) at, taken_lacks (parse (number w) (bits_of s) at) x f)

@@ -21,47 +21,11 @@ pub struct Short {
     pub actual: usize,
 }
 
-// What a step read, and the cursor after it.
+// What was read, and where the next field begins.
 #[derive(Clone, Copy)]
-pub struct Number {
-    pub value: u64,
-    pub next: Cursor,
-}
-
-#[derive(Clone, Copy)]
-pub struct Flag {
-    pub set: bool,
-    pub next: Cursor,
-}
-
-#[derive(Clone, Copy)]
-pub struct Run {
-    pub bytes: View,
-    pub next: Cursor,
-}
-
-#[derive(Clone, Copy)]
-pub enum Taken {
-    Got(Number),
-    Lacks(Short),
-}
-
-#[derive(Clone, Copy)]
-pub enum Flagged {
-    Got(Flag),
-    Lacks(Short),
-}
-
-#[derive(Clone, Copy)]
-pub enum Skipped {
-    Got(Cursor),
-    Lacks(Short),
-}
-
-#[derive(Clone, Copy)]
-pub enum Passed {
-    Got(Run),
-    Lacks(Short),
+pub struct Field<T, P> {
+    pub value: T,
+    pub next: P,
 }
 
 impl Cursor {
@@ -82,19 +46,19 @@ impl Cursor {
     }
 
     // The number in the next w bits.
-    pub fn take(self, s: &[u8], w: usize) -> Taken
+    pub fn take(self, s: &[u8], w: usize) -> Result<Field<u64, Cursor>, Short>
         ensures { result ≡ taken_of (parse (number w) (bits_of s.now) (place self)) }
     {
         let byte = self.byte;
         let bit = self.bit;
         if s.len() < byte {
-            return Taken::Lacks(Short {
+            return Err(Short {
                 expected: w / 8,
                 actual: 0,
             });
         }
         if s.len() - byte < bit / 8 {
-            return Taken::Lacks(Short {
+            return Err(Short {
                 expected: w / 8,
                 actual: 0,
             });
@@ -103,14 +67,14 @@ impl Cursor {
         let j = bit % 8;
         if s.len() - i < w / 8 + (w % 8 + j + 7) / 8 {
             let actual = self.left(s);
-            return Taken::Lacks(Short {
+            return Err(Short {
                 expected: w / 8,
                 actual,
             });
         }
         let value = bits(s, i, j, w);
         let over = w % 8 + j;
-        Taken::Got(Number {
+        Ok(Field {
             value,
             next: Cursor {
                 byte: i + w / 8 + over / 8,
@@ -120,62 +84,52 @@ impl Cursor {
     }
 
     // The flag in the next bit.
-    pub fn flag(self, s: &[u8]) -> Flagged
+    pub fn flag(self, s: &[u8]) -> Result<Field<bool, Cursor>, Short>
         ensures { result ≡ flagged_of (parse bit (bits_of s.now) (place self)) }
     {
-        match self.take(s, 1) {
-            Taken::Got(n) => {
-                let next = n.next;
-                Flagged::Got(Flag {
-                    set: n.value == 1,
-                    next,
-                })
-            }
-            Taken::Lacks(e) => Flagged::Lacks(e),
-        }
+        let n = self.take(s, 1)?;
+        Ok(Field {
+            value: n.value == 1,
+            next: n.next,
+        })
     }
 
     // Past w reserved bits.
-    pub fn skip(self, s: &[u8], w: usize) -> Skipped
+    pub fn skip(self, s: &[u8], w: usize) -> Result<Cursor, Short>
         ensures { result ≡ skipped_of (parse (reserved w) (bits_of s.now) (place self)) }
     {
-        match self.take(s, w) {
-            Taken::Got(n) => {
-                let next = n.next;
-                Skipped::Got(next)
-            }
-            Taken::Lacks(e) => Skipped::Lacks(e),
-        }
+        let n = self.take(s, w)?;
+        Ok(n.next)
     }
 
     // The next n bytes, as they lie from a byte's first bit on.
-    pub fn pass(self, s: &[u8], n: usize) -> Passed
+    pub fn pass(self, s: &[u8], n: usize) -> Result<Field<View, Cursor>, Short>
         ensures { result ≡ passed_of (parse (part n) (bits_of s.now) (place self)) }
     {
         let byte = self.byte;
         let bit = self.bit;
         if s.len() < byte {
-            return Passed::Lacks(Short {
+            return Err(Short {
                 expected: 1,
                 actual: 0,
             });
         }
         let present = s.len() - byte;
         if present < n {
-            return Passed::Lacks(Short {
+            return Err(Short {
                 expected: 1,
                 actual: 0,
             });
         }
         if present - n < bit / 8 + (bit % 8 + 7) / 8 {
-            return Passed::Lacks(Short {
+            return Err(Short {
                 expected: 1,
                 actual: 0,
             });
         }
         let i = byte + bit / 8;
-        Passed::Got(Run {
-            bytes: View { at: i, len: n },
+        Ok(Field {
+            value: View { at: i, len: n },
             next: Cursor {
                 byte: i + n,
                 bit: bit % 8,

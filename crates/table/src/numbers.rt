@@ -7,21 +7,21 @@ ghost use Rattle.table.specs.Table.{flag_number};
 pub fn wide(b: u8) -> u64
     ensures { (result ≡ b) × (result < 256) }
 {
-    b as u64
+    u64::from(b)
 }
 
 // A byte as a size, or as a place.
 pub fn size(b: u8) -> usize
     ensures { (result ≡ b) × (result < 256) }
 {
-    b as usize
+    usize::from(b)
 }
 
 // A flag as a number of one bit.
 pub fn flag_number(set: bool) -> u64
     ensures { (result ≡ flag_number set) × (result ≤ 1) }
 {
-    if set { 1 } else { 0 }
+    u64::from(set)
 }
 
 // The byte at a place, 0 past the end.
@@ -29,12 +29,6 @@ pub fn byte(s: &[u8], at: usize) -> u8
     ensures { result ≡ get_or s.now at 0 }
 {
     if at < s.len() { s[at] } else { 0 }
-}
-
-fn least(a: usize, b: usize) -> usize
-    ensures { (result ≤ a) × (result ≤ b) × (0 < a → 0 < b → 0 < result) }
-{
-    if a < b { a } else { b }
 }
 
 // The number in w bits from bit j of byte i on; of more than 64 bits, the last 64.
@@ -49,14 +43,14 @@ pub fn bits(s: &[u8], i: usize, j: usize, w: usize) -> u64
     }
     let mut v: u64 = 0;
     let mut at = i + j / 8;
-    // The bits of the byte that are behind, and those of the field that are ahead.
+    // The bits of the byte that are behind, and those of the field that are ahead: a turn goes on by as many as it read, so it counts no index.
     let mut behind = j % 8;
     let mut ahead = w;
     while 0 < ahead {
         if s.len() <= at {
             return v;
         }
-        let n = least(ahead, 8 - behind);
+        let n = ahead.min(8 - behind);
         v = (v << n) + (wide(s[at]) >> (8 - behind - n)) % (1u64 << n);
         ahead -= n;
         at += (behind + n) / 8;
@@ -69,6 +63,8 @@ pub fn bits(s: &[u8], i: usize, j: usize, w: usize) -> u64
 pub fn big_endian(s: &[u8], at: usize, n: usize) -> u64
     ensures { result ≡ field (bits_of s.now) (at * 8) (n * 8) % 2 ^ 64 }
 {
+    // An index loop: a for, over 0..n or over the bytes that are there, takes more instructions for the few bytes of a field, since the compiler unrolls it for
+    // longer ones: 18 for 11 at 2 bytes, 32 for 17 at 4, 38 for 28 at 8.
     let mut v: u64 = 0;
     let mut i = at;
     let mut ahead = n;

@@ -23,11 +23,9 @@ pub fn put_number(out: &mut [u8], at: usize, n: usize, v: u64)
         return;
     }
     let mut high = v;
-    let mut i = n;
-    while 0 < i {
-        i -= 1;
+    for i in (0..n).rev() {
         out[at + i] = (high % 256) as u8;
-        high = high / 256;
+        high /= 256;
     }
 }
 
@@ -41,9 +39,5 @@ pub fn put_bytes(out: &mut [u8], at: usize, src: &[u8])
     if out.len() - at < src.len() {
         return;
     }
-    let mut i = 0;
-    while i < src.len() {
-        out[at + i] = src[i];
-        i += 1;
-    }
+    out[at..at + src.len()].copy_from_slice(src);
 }

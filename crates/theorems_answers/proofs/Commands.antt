@@ -19,7 +19,6 @@ use Rattle.c_section.specs.FlatCommand.{flat_command, flat_command_read, no_comm
 use Rattle.c_section_writer.specs.SectionGiven.{header_from, section_words_made}
 use Rattle.command.specs.Command as command
 use Rattle.command.specs.Command.{array, command_of, type_of}
-use Rattle.command.specs.declared.CommandRead.{CommandRead}
 use Rattle.command.specs.declared.SpliceCommand.{SpliceCommand}
 use Rattle.command.specs.declared.components.InsertComponent.{InsertComponent}
 use Rattle.command_measure.specs.Made.{command_made}
@@ -34,6 +33,8 @@ use Rattle.theorems_functions.proofs.WrittenOverC as written
 use Rattle.theorems_writer.proofs.Theorems as writing
 use Rattle.theorems_writer.specs.Making.{CommandMakes, SectionMakes}
 use Rattle.theorems_answers.specs.Words.{moved_by, PayloadOf}
+use Rattle.std.proofs.Common.{Ok, Err, Result}
+use Rattle.command.specs.declared.CommandRefusal.{CommandRefusal}
 
 -- ---- the words of a command that is read
 
@@ -45,15 +46,15 @@ moved_flat (SpliceCommand.TimeSignal t) = refl
 moved_flat SpliceCommand.BandwidthReservation = refl
 moved_flat (SpliceCommand.PrivateCommand p) = refl
 
-pub flat_number : (r : CommandRead) → (flat_command_read r).refusal ≡ command.number_of r
+pub flat_number : (r : Result SpliceCommand CommandRefusal) → (flat_command_read r).refusal ≡ command.number_of r
 unfolding flat_command_read flat_command no_command
-flat_number (CommandRead.Is SpliceCommand.SpliceNull) = refl
-flat_number (CommandRead.Is (SpliceCommand.SpliceInsert i)) = refl
-flat_number (CommandRead.Is (SpliceCommand.TimeSignal t)) = refl
-flat_number (CommandRead.Is SpliceCommand.BandwidthReservation) = refl
-flat_number (CommandRead.Is (SpliceCommand.PrivateCommand p)) = refl
-flat_number CommandRead.UnknownType = refl
-flat_number CommandRead.Malformed = refl
+flat_number (Ok SpliceCommand.SpliceNull) = refl
+flat_number (Ok (SpliceCommand.SpliceInsert i)) = refl
+flat_number (Ok (SpliceCommand.TimeSignal t)) = refl
+flat_number (Ok SpliceCommand.BandwidthReservation) = refl
+flat_number (Ok (SpliceCommand.PrivateCommand p)) = refl
+flat_number (Err CommandRefusal.UnknownType) = refl
+flat_number (Err CommandRefusal.Malformed) = refl
 
 -- ---- its refusal, behind 1 to 9
 
@@ -62,10 +63,10 @@ first_after n [] cs h = let e : n ≡ n + 0 = omega arith in ap (λ (k : ℕ). f
 first_after n (true ∷ bs) cs h = zero_one cc
 first_after n (false ∷ bs) cs h = let e : suc n + length bs ≡ n + suc (length bs) = omega arith in first_after (suc n) bs cs h.1 ∙ ap (λ (k : ℕ). first k cs) e
 
-last_two : (r : CommandRead) → first 10 (eqb (command.number_of r) 10 ∷ eqb (command.number_of r) 11 ∷ []) ≡ command.number_of r
-last_two (CommandRead.Is c) = refl
-last_two CommandRead.UnknownType = refl
-last_two CommandRead.Malformed = refl
+last_two : (r : Result SpliceCommand CommandRefusal) → first 10 (eqb (command.number_of r) 10 ∷ eqb (command.number_of r) 11 ∷ []) ≡ command.number_of r
+last_two (Ok c) = refl
+last_two (Err CommandRefusal.UnknownType) = refl
+last_two (Err CommandRefusal.Malformed) = refl
 
 pub as_its_command : (s : List ℕ) → None (take 9 (conditions s)) → first 1 (conditions s) ≡ command.number_of (command_of (command_type s) (command_bytes s))
 as_its_command s n =
@@ -140,11 +141,11 @@ own_type : (c : SpliceCommand) (words : List ℕ) → same (command_words (flat_
 unfolding command_words
 own_type c words e = same_at (command_words (flat_command c)) words e 1 (lit< tt) ∙ type_word c
 
-pub payload_again_lem : (words components lent p : List ℕ) (w : PayloadOf words components lent p) → flat_command_read (command_of (word words 1) p) ≡ flat_command_read (CommandRead.Is w.payload.again)
+pub payload_again_lem : (words components lent p : List ℕ) (w : PayloadOf words components lent p) → flat_command_read (command_of (word words 1) p) ≡ flat_command_read (Ok w.payload.again)
 payload_again_lem words components lent p w =
     ap (λ (k : ℕ). flat_command_read (command_of k p)) (own_type w.own_command words w.command_is_lem.own) ∙ ap flat_command_read w.payload.reading
 
-pub words_again : (words components lent p : List ℕ) (w : PayloadOf words components lent p) → same (take 19 (command_words (flat_command_read (CommandRead.Is w.payload.again)))) words ≡ true
+pub words_again : (words components lent p : List ℕ) (w : PayloadOf words components lent p) → same (take 19 (command_words (flat_command_read (Ok w.payload.again)))) words ≡ true
 unfolding flat_command_read
 words_again words components lent p w =
     let c : SpliceCommand = w.own_command in

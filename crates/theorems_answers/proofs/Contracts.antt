@@ -6,7 +6,6 @@ use mathlib.Core.List.{List, []}
 use mathlib.Core.Path.{◌≡◌, sym, ◌∙◌, ap}
 use lib.ListN.{drop}
 use Rattle.bit_stores.specs.Written.{answer_of, later_of}
-use Rattle.bit_stores.specs.declared.Written.{Written}
 use Rattle.c_command_writer.specs.CommandGiven.{command_words_made}
 use Rattle.c_command_writer.specs.Words.{flat_written}
 use Rattle.c_command_writer.specs.declared.FlatWritten.{FlatWritten}
@@ -17,7 +16,6 @@ use Rattle.c_section.specs.declared.headers.FlatHeader.{FlatHeader}
 use Rattle.canonical_form.specs.Command.{canonical_command}
 use Rattle.canonical_form.specs.Descriptor.{canonical_descriptor, canonical_loop}
 use Rattle.command.specs.Command.{array, command_of, listed_of}
-use Rattle.command.specs.declared.CommandRead.{CommandRead}
 use Rattle.command.specs.declared.SpliceCommand.{SpliceCommand}
 use Rattle.command.specs.declared.components.ListedCommand.{ListedCommand}
 use Rattle.command_measure.specs.Made.{command_made}
@@ -25,14 +23,11 @@ use Rattle.crc.specs.Crc.{crc_of}
 use Rattle.descriptor.specs.Descriptor.{descriptor_of}
 use Rattle.descriptor.specs.Full.{filled, full_of}
 use Rattle.descriptor.specs.declared.Descriptor.{Descriptor}
-use Rattle.descriptor.specs.declared.DescriptorRead.{DescriptorRead}
 use Rattle.descriptor.specs.declared.full.FullDescriptor.{FullDescriptor}
 use Rattle.descriptor_loop.specs.Items.{count_of}
-use Rattle.descriptor_loop.specs.declared.iteration.Counted.{Counted}
 use Rattle.descriptor_measure.specs.Writing.{descriptor_made}
 use Rattle.descriptor_writer.specs.Stores.{Writes}
 use Rattle.header.specs.Header.{header_of}
-use Rattle.header.specs.declared.header.HeaderRead.{HeaderRead}
 use Rattle.header.specs.declared.header.SpliceInfoHeader.{SpliceInfoHeader}
 use Rattle.names.specs.Algorithm.{algorithm_entry, algorithm_of}
 use Rattle.names.specs.Command.{command_entry, command_type_of}
@@ -44,7 +39,6 @@ use Rattle.scte35.specs.declared.numbers.FlatNumber.{FlatNumber}
 use Rattle.section_writer.specs.Writing.{type_of, section_made}
 use Rattle.theorems_c.specs.Boards.{May}
 use Rattle.upid.specs.Upid.{check_of}
-use Rattle.upid.specs.declared.UpidRead.{UpidRead}
 use Rattle.command.proofs.components.read_components.Reads as read_components
 use Rattle.command.proofs.read_command.Reads as read_command
 use Rattle.command_canonical.proofs.is_canonical_command.Reads as is_canonical_command
@@ -72,20 +66,24 @@ use Rattle.scte35.proofs.scte35_crc.Reads as scte35_crc
 use Rattle.scte35.proofs.scte35_read_command.Reads as scte35_read_command
 use Rattle.scte35.proofs.scte35_read_header.Reads as scte35_read_header
 use Rattle.scte35.proofs.writing.scte35_write_command_words.Reads as scte35_write_command_words
+use Rattle.std.proofs.Common.{Option, Result}
+use Rattle.command.specs.declared.CommandRefusal.{CommandRefusal}
+use Rattle.upid.specs.declared.Refusal.{Refusal}
+use Rattle.descriptor_loop.specs.declared.ItemRefusal.{ItemRefusal}
 
 -- ---- the readers
 
-abbrev pub ReadsHeader : List ℕ → HeaderRead → Type 0
-ReadsHeader b r = May read_header.Learnt {S = List ℕ} {T = HeaderRead} (λ κ a. a.0.now) (λ κ r e. r) b r
+abbrev pub ReadsHeader : List ℕ → Option SpliceInfoHeader → Type 0
+ReadsHeader b r = May read_header.Learnt {S = List ℕ} {T = Option SpliceInfoHeader} (λ κ a. a.0.now) (λ κ r e. r) b r
 
-pub reads_header_so : {b : List ℕ} {r : HeaderRead} → ReadsHeader b r → r ≡ header_of b
+pub reads_header_so : {b : List ℕ} {r : Option SpliceInfoHeader} → ReadsHeader b r → r ≡ header_of b
 reads_header_so d = sym d.left ∙ d.learnt_so ∙ ap header_of d.taken
 
 -- a type and a payload
-abbrev pub ReadsCommand : ℕ → List ℕ → CommandRead → Type 0
-ReadsCommand k p r = May read_command.Learnt {S = ℕ × List ℕ} {T = CommandRead} (λ κ a. (a.0, a.1.0.now)) (λ κ r e. r) (k, p) r
+abbrev pub ReadsCommand : ℕ → List ℕ → Result SpliceCommand CommandRefusal → Type 0
+ReadsCommand k p r = May read_command.Learnt {S = ℕ × List ℕ} {T = Result SpliceCommand CommandRefusal} (λ κ a. (a.0, a.1.0.now)) (λ κ r e. r) (k, p) r
 
-pub reads_command_so : {k : ℕ} {p : List ℕ} {r : CommandRead} → ReadsCommand k p r → r ≡ command_of k p
+pub reads_command_so : {k : ℕ} {p : List ℕ} {r : Result SpliceCommand CommandRefusal} → ReadsCommand k p r → r ≡ command_of k p
 reads_command_so d = sym d.left ∙ d.learnt_so ∙ ap (λ (v : ℕ × List ℕ). command_of v.0 v.1) d.taken
 
 -- of an insert's payload
@@ -95,17 +93,17 @@ ReadsComponents p r = May read_components.Learnt {S = List ℕ} {T = ListedComma
 pub reads_components_so : {p : List ℕ} {r : ListedCommand} → ReadsComponents p r → r ≡ listed_of p
 reads_components_so d = sym d.left ∙ d.learnt_so ∙ ap listed_of d.taken
 
-abbrev pub CountsItems : List ℕ → Counted → Type 0
-CountsItems loop r = May count_items.Learnt {S = List ℕ} {T = Counted} (λ κ a. a.0.now) (λ κ r e. r) loop r
+abbrev pub CountsItems : List ℕ → Result ℕ ItemRefusal → Type 0
+CountsItems loop r = May count_items.Learnt {S = List ℕ} {T = Result ℕ ItemRefusal} (λ κ a. a.0.now) (λ κ r e. r) loop r
 
-pub counts_items_so : {loop : List ℕ} {r : Counted} → CountsItems loop r → r ≡ count_of loop
+pub counts_items_so : {loop : List ℕ} {r : Result ℕ ItemRefusal} → CountsItems loop r → r ≡ count_of loop
 counts_items_so d = sym d.left ∙ d.learnt_so ∙ ap count_of d.taken
 
 -- a tag, an identifier and a payload
-abbrev pub ReadsDescriptor : ℕ → List ℕ → List ℕ → DescriptorRead → Type 0
-ReadsDescriptor tag identifier p r = May read_descriptor.Learnt {S = ℕ × (List ℕ × List ℕ)} {T = DescriptorRead} (λ κ a. (a.0, (a.1.0, a.1.1.0.now))) (λ κ r e. r) (tag, (identifier, p)) r
+abbrev pub ReadsDescriptor : ℕ → List ℕ → List ℕ → Result Descriptor Refusal → Type 0
+ReadsDescriptor tag identifier p r = May read_descriptor.Learnt {S = ℕ × (List ℕ × List ℕ)} {T = Result Descriptor Refusal} (λ κ a. (a.0, (a.1.0, a.1.1.0.now))) (λ κ r e. r) (tag, (identifier, p)) r
 
-pub reads_descriptor_so : {tag : ℕ} {identifier p : List ℕ} {r : DescriptorRead} → ReadsDescriptor tag identifier p r → r ≡ descriptor_of tag identifier p
+pub reads_descriptor_so : {tag : ℕ} {identifier p : List ℕ} {r : Result Descriptor Refusal} → ReadsDescriptor tag identifier p r → r ≡ descriptor_of tag identifier p
 reads_descriptor_so d = sym d.left ∙ d.learnt_so ∙ ap (λ (v : ℕ × (List ℕ × List ℕ)). descriptor_of v.0 v.1.0 v.1.1) d.taken
 
 abbrev pub ReadsFullDescriptor : ℕ → List ℕ → List ℕ → FullDescriptor → Type 0
@@ -114,10 +112,10 @@ ReadsFullDescriptor tag identifier p r = May read_full_descriptor.Learnt {S = �
 pub reads_full_descriptor_so : {tag : ℕ} {identifier p : List ℕ} {r : FullDescriptor} → ReadsFullDescriptor tag identifier p r → r ≡ full_of tag identifier p
 reads_full_descriptor_so d = sym d.left ∙ d.learnt_so ∙ ap (λ (v : ℕ × (List ℕ × List ℕ)). full_of v.0 v.1.0 v.1.1) d.taken
 
-abbrev pub ChecksUpid : ℕ → List ℕ → UpidRead → Type 0
-ChecksUpid k b r = May check_upid.Learnt {S = ℕ × List ℕ} {T = UpidRead} (λ κ a. (a.0, a.1.0.now)) (λ κ r e. r) (k, b) r
+abbrev pub ChecksUpid : ℕ → List ℕ → Result ℕ Refusal → Type 0
+ChecksUpid k b r = May check_upid.Learnt {S = ℕ × List ℕ} {T = Result ℕ Refusal} (λ κ a. (a.0, a.1.0.now)) (λ κ r e. r) (k, b) r
 
-pub checks_upid_so : {k : ℕ} {b : List ℕ} {r : UpidRead} → ChecksUpid k b r → r ≡ check_of k b
+pub checks_upid_so : {k : ℕ} {b : List ℕ} {r : Result ℕ Refusal} → ChecksUpid k b r → r ≡ check_of k b
 checks_upid_so d = sym d.left ∙ d.learnt_so ∙ ap (λ (v : ℕ × List ℕ). check_of v.0 v.1) d.taken
 
 abbrev pub GivesCrc : List ℕ → ℕ → Type 0
@@ -148,49 +146,49 @@ tells_loop_so d = sym d.left ∙ d.learnt_so ∙ ap canonical_loop d.taken
 
 -- ---- the writers without components: what is handed in, the target, the answer and the target's later bytes
 
-abbrev pub WritesCommandAlone : SpliceCommand → List ℕ → List ℕ → Written → List ℕ → Type 0
+abbrev pub WritesCommandAlone : SpliceCommand → List ℕ → List ℕ → Result ℕ ℕ → List ℕ → Type 0
 WritesCommandAlone c lent target answer later =
-    May write_command_without_components.Learnt {S = SpliceCommand × (List ℕ × List ℕ)} {T = Written × List ℕ}
+    May write_command_without_components.Learnt {S = SpliceCommand × (List ℕ × List ℕ)} {T = Result ℕ ℕ × List ℕ}
     (λ κ a. (a.0, (a.1.0.now, a.1.1.0.now))) (λ κ r e. (r, e.1.1.0.now)) (c, (lent, target)) (answer, later)
 
-pub writes_command_alone_so : {c : SpliceCommand} {lent target : List ℕ} {answer : Written} {later : List ℕ} → WritesCommandAlone c lent target answer later
+pub writes_command_alone_so : {c : SpliceCommand} {lent target : List ℕ} {answer : Result ℕ ℕ} {later : List ℕ} → WritesCommandAlone c lent target answer later
     → Writes (command_made c (array []) lent) target later answer
 writes_command_alone_so d = record {
-  answer = sym (ap (λ (v : Written × List ℕ). v.0) d.left) ∙ d.learnt_so.0
+  answer = sym (ap (λ (v : Result ℕ ℕ × List ℕ). v.0) d.left) ∙ d.learnt_so.0
       ∙ ap (λ (v : SpliceCommand × (List ℕ × List ℕ)). answer_of (command_made v.0 (array []) v.1.0) v.1.1) d.taken;
-  target_later = sym (ap (λ (v : Written × List ℕ). v.1) d.left) ∙ d.learnt_so.1
+  target_later = sym (ap (λ (v : Result ℕ ℕ × List ℕ). v.1) d.left) ∙ d.learnt_so.1
       ∙ ap (λ (v : SpliceCommand × (List ℕ × List ℕ)). later_of (command_made v.0 (array []) v.1.0) v.1.1) d.taken;
 }
 
 -- a descriptor, an identifier and an EIDR
-abbrev pub WritesDescriptorAlone : Descriptor → List ℕ → List ℕ → List ℕ → List ℕ → Written → List ℕ → Type 0
+abbrev pub WritesDescriptorAlone : Descriptor → List ℕ → List ℕ → List ℕ → List ℕ → Result ℕ ℕ → List ℕ → Type 0
 WritesDescriptorAlone x identifier eidr lent target answer later =
-    May write_descriptor_without_components.Learnt {S = Descriptor × (List ℕ × (List ℕ × (List ℕ × List ℕ)))} {T = Written × List ℕ}
+    May write_descriptor_without_components.Learnt {S = Descriptor × (List ℕ × (List ℕ × (List ℕ × List ℕ)))} {T = Result ℕ ℕ × List ℕ}
     (λ κ a. (a.0, (a.1.0, (a.1.1.0, (a.1.1.1.0.now, a.1.1.1.1.0.now))))) (λ κ r e. (r, e.1.1.1.1.0.now))
     (x, (identifier, (eidr, (lent, target)))) (answer, later)
 
-pub writes_descriptor_alone_so : {x : Descriptor} {identifier eidr lent target : List ℕ} {answer : Written} {later : List ℕ} → WritesDescriptorAlone x identifier eidr lent target answer later
+pub writes_descriptor_alone_so : {x : Descriptor} {identifier eidr lent target : List ℕ} {answer : Result ℕ ℕ} {later : List ℕ} → WritesDescriptorAlone x identifier eidr lent target answer later
     → Writes (descriptor_made x identifier (record { components = filled []; eidr = eidr }) lent) target later answer
 writes_descriptor_alone_so d = record {
-  answer = sym (ap (λ (v : Written × List ℕ). v.0) d.left) ∙ d.learnt_so.answer
+  answer = sym (ap (λ (v : Result ℕ ℕ × List ℕ). v.0) d.left) ∙ d.learnt_so.answer
       ∙ ap (λ (v : Descriptor × (List ℕ × (List ℕ × (List ℕ × List ℕ)))). answer_of (descriptor_made v.0 v.1.0 (record { components = filled []; eidr = v.1.1.0 }) v.1.1.1.0) v.1.1.1.1) d.taken;
-  target_later = sym (ap (λ (v : Written × List ℕ). v.1) d.left) ∙ d.learnt_so.target_later
+  target_later = sym (ap (λ (v : Result ℕ ℕ × List ℕ). v.1) d.left) ∙ d.learnt_so.target_later
       ∙ ap (λ (v : Descriptor × (List ℕ × (List ℕ × (List ℕ × List ℕ)))). later_of (descriptor_made v.0 v.1.0 (record { components = filled []; eidr = v.1.1.0 }) v.1.1.1.0) v.1.1.1.1) d.taken;
 }
 
 -- a header, a command, the bytes that its view refers to, and a loop
-abbrev pub WritesSectionAlone : SpliceInfoHeader → SpliceCommand → List ℕ → List ℕ → List ℕ → Written → List ℕ → Type 0
+abbrev pub WritesSectionAlone : SpliceInfoHeader → SpliceCommand → List ℕ → List ℕ → List ℕ → Result ℕ ℕ → List ℕ → Type 0
 WritesSectionAlone h c lent loop target answer later =
-    May write_section_without_components.Learnt {S = SpliceInfoHeader × (SpliceCommand × (List ℕ × (List ℕ × List ℕ)))} {T = Written × List ℕ}
+    May write_section_without_components.Learnt {S = SpliceInfoHeader × (SpliceCommand × (List ℕ × (List ℕ × List ℕ)))} {T = Result ℕ ℕ × List ℕ}
     (λ κ a. (a.0, (a.1.0, (a.1.1.0.now, (a.1.1.1.0.now, a.1.1.1.1.0.now))))) (λ κ r e. (r, e.1.1.1.1.0.now))
     (h, (c, (lent, (loop, target)))) (answer, later)
 
-pub writes_section_alone_so : {h : SpliceInfoHeader} {c : SpliceCommand} {lent loop target : List ℕ} {answer : Written} {later : List ℕ} → WritesSectionAlone h c lent loop target answer later
+pub writes_section_alone_so : {h : SpliceInfoHeader} {c : SpliceCommand} {lent loop target : List ℕ} {answer : Result ℕ ℕ} {later : List ℕ} → WritesSectionAlone h c lent loop target answer later
     → Writes (section_made h (command_made c (array []) lent) (type_of c) loop) target later answer
 writes_section_alone_so d = record {
-  answer = sym (ap (λ (v : Written × List ℕ). v.0) d.left) ∙ d.learnt_so.0
+  answer = sym (ap (λ (v : Result ℕ ℕ × List ℕ). v.0) d.left) ∙ d.learnt_so.0
       ∙ ap (λ (v : SpliceInfoHeader × (SpliceCommand × (List ℕ × (List ℕ × List ℕ)))). answer_of (section_made v.0 (command_made v.1.0 (array []) v.1.1.0) (type_of v.1.0) v.1.1.1.0) v.1.1.1.1) d.taken;
-  target_later = sym (ap (λ (v : Written × List ℕ). v.1) d.left) ∙ d.learnt_so.1
+  target_later = sym (ap (λ (v : Result ℕ ℕ × List ℕ). v.1) d.left) ∙ d.learnt_so.1
       ∙ ap (λ (v : SpliceInfoHeader × (SpliceCommand × (List ℕ × (List ℕ × List ℕ)))). later_of (section_made v.0 (command_made v.1.0 (array []) v.1.1.0) (type_of v.1.0) v.1.1.1.0) v.1.1.1.1) d.taken;
 }
 

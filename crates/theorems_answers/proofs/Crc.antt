@@ -13,9 +13,9 @@ use Rattle.crc.specs.Crc.{crc_of, crc_bytes_of}
 use Rattle.section.proofs.Parts.{parts_of_lem}
 use Rattle.section.specs.Section.{conditions, first, section_of}
 use Rattle.section.specs.declared.Section.{Section}
-use Rattle.section.specs.declared.SectionRead.{SectionRead}
 use Rattle.table.proofs.Bits.{byte_in}
 use Rattle.table.specs.Bits.{AllBytes}
+use Rattle.std.proofs.Common.{Ok}
 
 -- a refusal that comes later has a higher number
 late : (n : ℕ) (bs : List Bool) → 4 ≤ n → eqb (first (suc n) bs) 4 ≡ false
@@ -32,7 +32,7 @@ by_crc s three most table =
     fourth (ltb (length s) 3) (ltb 4096 (length s)) (not (eqb (get_or s 0 0) 0xfc)) (not (eqb (crc_of s) 0)) (drop 4 (conditions s))
     (le-ltb (length s) 3 three) (le-ltb 4096 (length s) most) (ap not (eq-eqb (get_or s 0 0) 0xfc table))
 
-pub last_four : (s : List ℕ) (x : Section) → AllBytes s → section_of s ≡ SectionRead.Is x → drop (length s - 4) s ≡ crc_bytes_of (take (length s - 4) s)
+pub last_four : (s : List ℕ) (x : Section) → AllBytes s → section_of s ≡ Ok x → drop (length s - 4) s ≡ crc_bytes_of (take (length s - 4) s)
 last_four s x a e =
     let p = parts_of_lem s x e in
     let k : ℕ = length s - 4 in

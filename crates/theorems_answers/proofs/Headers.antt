@@ -12,7 +12,6 @@ use Rattle.c_section.specs.Flat.{no_header, flat_header_read}
 use Rattle.header.specs.Header.{header_of}
 use Rattle.header_numbers.proofs.Places.{too_short}
 use Rattle.header_numbers.specs.Numbers.{numbers_in, numbers_read}
-use Rattle.header_numbers.specs.declared.NumbersRead.{NumbersRead}
 use Rattle.section.specs.Section.{command_type}
 use Rattle.table.proofs.Bits.{all_bits, length_bits, byte_in}
 use Rattle.table.proofs.Fields.{field_below, byte_field}
@@ -20,6 +19,7 @@ use Rattle.table.specs.Bits.{bits_of, field, AllBytes}
 use Rattle.table.specs.Table.{flag_number}
 use Rattle.upid.proofs.Laws.{by_cases}
 use Rattle.theorems_answers.specs.Words.{header_at}
+use Rattle.std.proofs.Common.{Some}
 
 -- a bit is its flag's number
 flag_of : (n : ℕ) → n < 2 → n ≡ flag_number (eqb n 1)
@@ -27,7 +27,7 @@ flag_of zero h = refl
 flag_of (suc zero) h = refl
 flag_of (suc (suc n)) h = absurd (omega arith)
 
-there : (b : List ℕ) → 11 ≤ length b → NumbersRead.Numbers (numbers_in b) ≡ numbers_read b
+there : (b : List ℕ) → 11 ≤ length b → Some (numbers_in b) ≡ numbers_read b
 unfolding numbers_read
 there b long = rw (le-ltb (length b) 11 long)
 

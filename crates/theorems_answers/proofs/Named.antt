@@ -1,44 +1,43 @@
--- The named numbers in Rattle: what `from_id`, `id` and `writable` of each enum may answer, by their contracts (`..-so`), and that there is such an answer
+-- The named numbers in Rattle: what `from`, `into` and `writable` of each enum may answer, by their contracts (`..-so`), and that there is such an answer
 -- (`..-is-met`).
 use Prim.Native.Nat.{ℕ}
 use mathlib.Core.Bool.{Bool}
 use mathlib.Core.Option.{Option, none, some}
 use mathlib.Core.Path.{◌≡◌, refl, sym, ◌∙◌, ap}
+use Rattle.std.specs.Prelude.{Result, Ok, Err}
 use Rattle.names.specs.Algorithm.{algorithm_of, algorithm_number, writable_algorithm}
 use Rattle.names.specs.Command.{command_type_of, command_number, writable_command}
 use Rattle.names.specs.Upid.{upid_type_of, upid_type_number, writable_upid_type}
 use Rattle.names.specs.Segmentation.{segmentation_type_of, segmentation_number, writable_segmentation}
-use Rattle.names.specs.Flags.{Answer, or_12, networks, network_of, network_flag, network_answer, return_modes, return_of, return_flag, return_answer, restrictions, restrictions_of, restrictions_bits, restrictions_answer}
+use Rattle.names.specs.Flags.{Answer, or_12, networks, network_of, network_flag, return_modes, return_of, return_flag, restrictions, restrictions_of, restrictions_bits, flag_answer}
 use Rattle.names.specs.declared.algorithm.EncryptionAlgorithm.{EncryptionAlgorithm}
 use Rattle.names.specs.declared.command.SpliceCommandType.{SpliceCommandType}
 use Rattle.names.specs.declared.upid.SegmentationUpidType.{SegmentationUpidType}
 use Rattle.names.specs.declared.segmentation.SegmentationTypeId.{SegmentationTypeId}
+use Rattle.names.specs.declared.flags.UnknownNumber.{UnknownNumber}
 use Rattle.names.specs.declared.flags.NetworkIndicator.{NetworkIndicator}
-use Rattle.names.specs.declared.flags.NetworkRead.{NetworkRead}
 use Rattle.names.specs.declared.flags.ReturnMode.{ReturnMode}
-use Rattle.names.specs.declared.flags.ReturnRead.{ReturnRead}
 use Rattle.names.specs.declared.flags.DeviceRestrictions.{DeviceRestrictions}
-use Rattle.names.specs.declared.flags.RestrictionsRead.{RestrictionsRead}
 use Rattle.names.specs.Numbering.{name_of}
 use Rattle.theorems_c.specs.Boards.{May}
-use Rattle.names.proofs.algorithm.EncryptionAlgorithm.from_id.Reads as algorithm_from
-use Rattle.names.proofs.algorithm.EncryptionAlgorithm.id.Reads as algorithm_id
-use Rattle.names.proofs.algorithm.EncryptionAlgorithm.writable.Reads as algorithm_writable
-use Rattle.names.proofs.command.SpliceCommandType.from_id.Reads as command_type_from
-use Rattle.names.proofs.command.SpliceCommandType.id.Reads as command_type_id
-use Rattle.names.proofs.command.SpliceCommandType.writable.Reads as command_type_writable
-use Rattle.names.proofs.upid.SegmentationUpidType.from_type.Reads as upid_type_from
-use Rattle.names.proofs.upid.SegmentationUpidType.id.Reads as upid_type_id
-use Rattle.names.proofs.upid.SegmentationUpidType.writable.Reads as upid_type_writable
-use Rattle.names.proofs.segmentation.SegmentationTypeId.from_id.Reads as segmentation_type_from
-use Rattle.names.proofs.segmentation.SegmentationTypeId.id.Reads as segmentation_type_id
-use Rattle.names.proofs.segmentation.SegmentationTypeId.writable.Reads as segmentation_type_writable
-use Rattle.names.proofs.flags.NetworkIndicator.from_flag.Reads as network_from
-use Rattle.names.proofs.flags.NetworkIndicator.flag.Reads as network_number
-use Rattle.names.proofs.flags.ReturnMode.from_flag.Reads as return_mode_from
-use Rattle.names.proofs.flags.ReturnMode.flag.Reads as return_mode_number
-use Rattle.names.proofs.flags.DeviceRestrictions.from_bits.Reads as restrictions_from
-use Rattle.names.proofs.flags.DeviceRestrictions.bits.Reads as restrictions_number
+use Rattle.names.proofs.algorithm.EncryptionAlgorithmFromU8.from.Reads as algorithm_from
+use Rattle.names.proofs.algorithm.U8FromEncryptionAlgorithm.from.Reads as algorithm_id
+use Rattle.names.proofs.algorithm.EncryptionAlgorithmNumbered.writable.Reads as algorithm_writable
+use Rattle.names.proofs.command.SpliceCommandTypeFromU8.from.Reads as command_type_from
+use Rattle.names.proofs.command.U8FromSpliceCommandType.from.Reads as command_type_id
+use Rattle.names.proofs.command.SpliceCommandTypeNumbered.writable.Reads as command_type_writable
+use Rattle.names.proofs.upid.SegmentationUpidTypeFromU8.from.Reads as upid_type_from
+use Rattle.names.proofs.upid.U8FromSegmentationUpidType.from.Reads as upid_type_id
+use Rattle.names.proofs.upid.SegmentationUpidTypeNumbered.writable.Reads as upid_type_writable
+use Rattle.names.proofs.segmentation.SegmentationTypeIdFromU8.from.Reads as segmentation_type_from
+use Rattle.names.proofs.segmentation.U8FromSegmentationTypeId.from.Reads as segmentation_type_id
+use Rattle.names.proofs.segmentation.SegmentationTypeIdNumbered.writable.Reads as segmentation_type_writable
+use Rattle.names.proofs.flags.NetworkIndicatorTryFromU8.try_from.Reads as network_from
+use Rattle.names.proofs.flags.U8FromNetworkIndicator.from.Reads as network_number
+use Rattle.names.proofs.flags.ReturnModeTryFromU8.try_from.Reads as return_mode_from
+use Rattle.names.proofs.flags.U8FromReturnMode.from.Reads as return_mode_number
+use Rattle.names.proofs.flags.DeviceRestrictionsTryFromU8.try_from.Reads as restrictions_from
+use Rattle.names.proofs.flags.U8FromDeviceRestrictions.from.Reads as restrictions_number
 
 -- ---- EncryptionAlgorithm
 
@@ -58,6 +57,7 @@ abbrev pub AlgorithmWritable : EncryptionAlgorithm → Bool → Type 0
 AlgorithmWritable x r = May algorithm_writable.Learnt {S = EncryptionAlgorithm} {T = Bool} (λ κ a. a.0) (λ κ r e. r) x r
 
 pub algorithm_writable_so : (x : EncryptionAlgorithm) (b : Bool) → AlgorithmWritable x b → b ≡ writable_algorithm x
+unfolding writable_algorithm
 algorithm_writable_so x b d = sym d.left ∙ d.learnt_so ∙ ap writable_algorithm d.taken
 
 pub algorithm_from_is_met : (n : ℕ) → AlgorithmFrom n (algorithm_of n)
@@ -67,6 +67,7 @@ pub algorithm_id_is_met : (x : EncryptionAlgorithm) → AlgorithmNumber x (algor
 algorithm_id_is_met x = record { κ = tt; arguments = (x, tt); answer = algorithm_number x; after = (x, tt); taken = refl; left = refl; learnt_so = refl }
 
 pub algorithm_writable_is_met : (x : EncryptionAlgorithm) → AlgorithmWritable x (writable_algorithm x)
+unfolding writable_algorithm
 algorithm_writable_is_met x = record { κ = tt; arguments = (x, tt); answer = writable_algorithm x; after = (x, tt); taken = refl; left = refl; learnt_so = refl }
 
 -- ---- SpliceCommandType
@@ -87,6 +88,7 @@ abbrev pub CommandTypeWritable : SpliceCommandType → Bool → Type 0
 CommandTypeWritable x r = May command_type_writable.Learnt {S = SpliceCommandType} {T = Bool} (λ κ a. a.0) (λ κ r e. r) x r
 
 pub command_type_writable_so : (x : SpliceCommandType) (b : Bool) → CommandTypeWritable x b → b ≡ writable_command x
+unfolding writable_command
 command_type_writable_so x b d = sym d.left ∙ d.learnt_so ∙ ap writable_command d.taken
 
 pub command_type_from_is_met : (n : ℕ) → CommandTypeFrom n (command_type_of n)
@@ -96,6 +98,7 @@ pub command_type_id_is_met : (x : SpliceCommandType) → CommandTypeNumber x (co
 command_type_id_is_met x = record { κ = tt; arguments = (x, tt); answer = command_number x; after = (x, tt); taken = refl; left = refl; learnt_so = refl }
 
 pub command_type_writable_is_met : (x : SpliceCommandType) → CommandTypeWritable x (writable_command x)
+unfolding writable_command
 command_type_writable_is_met x = record { κ = tt; arguments = (x, tt); answer = writable_command x; after = (x, tt); taken = refl; left = refl; learnt_so = refl }
 
 -- ---- SegmentationUpidType
@@ -116,6 +119,7 @@ abbrev pub UpidTypeWritable : SegmentationUpidType → Bool → Type 0
 UpidTypeWritable x r = May upid_type_writable.Learnt {S = SegmentationUpidType} {T = Bool} (λ κ a. a.0) (λ κ r e. r) x r
 
 pub upid_type_writable_so : (x : SegmentationUpidType) (b : Bool) → UpidTypeWritable x b → b ≡ writable_upid_type x
+unfolding writable_upid_type
 upid_type_writable_so x b d = sym d.left ∙ d.learnt_so ∙ ap writable_upid_type d.taken
 
 pub upid_type_from_is_met : (n : ℕ) → UpidTypeFrom n (upid_type_of n)
@@ -125,6 +129,7 @@ pub upid_type_id_is_met : (x : SegmentationUpidType) → UpidTypeNumber x (upid_
 upid_type_id_is_met x = record { κ = tt; arguments = (x, tt); answer = upid_type_number x; after = (x, tt); taken = refl; left = refl; learnt_so = refl }
 
 pub upid_type_writable_is_met : (x : SegmentationUpidType) → UpidTypeWritable x (writable_upid_type x)
+unfolding writable_upid_type
 upid_type_writable_is_met x = record { κ = tt; arguments = (x, tt); answer = writable_upid_type x; after = (x, tt); taken = refl; left = refl; learnt_so = refl }
 
 -- ---- SegmentationTypeId
@@ -145,6 +150,7 @@ abbrev pub SegmentationTypeWritable : SegmentationTypeId → Bool → Type 0
 SegmentationTypeWritable x r = May segmentation_type_writable.Learnt {S = SegmentationTypeId} {T = Bool} (λ κ a. a.0) (λ κ r e. r) x r
 
 pub segmentation_type_writable_so : (x : SegmentationTypeId) (b : Bool) → SegmentationTypeWritable x b → b ≡ writable_segmentation x
+unfolding writable_segmentation
 segmentation_type_writable_so x b d = sym d.left ∙ d.learnt_so ∙ ap writable_segmentation d.taken
 
 pub segmentation_type_from_is_met : (n : ℕ) → SegmentationTypeFrom n (segmentation_type_of n)
@@ -154,12 +160,17 @@ pub segmentation_type_id_is_met : (x : SegmentationTypeId) → SegmentationTypeN
 segmentation_type_id_is_met x = record { κ = tt; arguments = (x, tt); answer = segmentation_number x; after = (x, tt); taken = refl; left = refl; learnt_so = refl }
 
 pub segmentation_type_writable_is_met : (x : SegmentationTypeId) → SegmentationTypeWritable x (writable_segmentation x)
+unfolding writable_segmentation
 segmentation_type_writable_is_met x = record { κ = tt; arguments = (x, tt); answer = writable_segmentation x; after = (x, tt); taken = refl; left = refl; learnt_so = refl }
 
 -- ---- flags and restrictions; what is read, in 01's terms
 
+flag_read : {A : Type 0} (o : Option A) → (r : Result A UnknownNumber) × (flag_answer r ≡ or_12 o)
+flag_read none = (Err (record {}), refl)
+flag_read (some x) = (Ok x, refl)
+
 abbrev pub NetworkFrom : ℕ → Answer NetworkIndicator → Type 0
-NetworkFrom n r = May network_from.Learnt {S = ℕ} {T = Answer NetworkIndicator} (λ κ a. a.0) (λ κ r e. network_answer r) n r
+NetworkFrom n r = May network_from.Learnt {S = ℕ} {T = Answer NetworkIndicator} (λ κ a. a.0) (λ κ r e. flag_answer r) n r
 
 pub network_from_so : (n : ℕ) (r : Answer NetworkIndicator) → NetworkFrom n r → r ≡ network_of n
 network_from_so n r d = sym d.left ∙ d.learnt_so ∙ ap network_of d.taken
@@ -170,21 +181,17 @@ NetworkNumber x k = May network_number.Learnt {S = NetworkIndicator} {T = ℕ} (
 pub network_number_so : (x : NetworkIndicator) (k : ℕ) → NetworkNumber x k → k ≡ network_flag x
 network_number_so x k d = sym d.left ∙ d.learnt_so ∙ ap network_flag d.taken
 
-network_read : (o : Option NetworkIndicator) → (r : NetworkRead) × (network_answer r ≡ or_12 o)
-network_read none = (NetworkRead.Refused, refl)
-network_read (some x) = (NetworkRead.Is x, refl)
-
 pub network_from_is_met : (n : ℕ) → NetworkFrom n (network_of n)
 unfolding network_of
 network_from_is_met n =
-    let r = network_read (name_of network_flag networks n) in
+    let r = flag_read (name_of network_flag networks n) in
     record { κ = tt; arguments = (n, tt); answer = r.0; after = (n, tt); taken = refl; left = r.1; learnt_so = r.1 }
 
 pub network_number_is_met : (x : NetworkIndicator) → NetworkNumber x (network_flag x)
 network_number_is_met x = record { κ = tt; arguments = (x, tt); answer = network_flag x; after = (x, tt); taken = refl; left = refl; learnt_so = refl }
 
 abbrev pub ReturnModeFrom : ℕ → Answer ReturnMode → Type 0
-ReturnModeFrom n r = May return_mode_from.Learnt {S = ℕ} {T = Answer ReturnMode} (λ κ a. a.0) (λ κ r e. return_answer r) n r
+ReturnModeFrom n r = May return_mode_from.Learnt {S = ℕ} {T = Answer ReturnMode} (λ κ a. a.0) (λ κ r e. flag_answer r) n r
 
 pub return_mode_from_so : (n : ℕ) (r : Answer ReturnMode) → ReturnModeFrom n r → r ≡ return_of n
 return_mode_from_so n r d = sym d.left ∙ d.learnt_so ∙ ap return_of d.taken
@@ -195,21 +202,17 @@ ReturnModeNumber x k = May return_mode_number.Learnt {S = ReturnMode} {T = ℕ} 
 pub return_mode_number_so : (x : ReturnMode) (k : ℕ) → ReturnModeNumber x k → k ≡ return_flag x
 return_mode_number_so x k d = sym d.left ∙ d.learnt_so ∙ ap return_flag d.taken
 
-return_mode_read : (o : Option ReturnMode) → (r : ReturnRead) × (return_answer r ≡ or_12 o)
-return_mode_read none = (ReturnRead.Refused, refl)
-return_mode_read (some x) = (ReturnRead.Is x, refl)
-
 pub return_mode_from_is_met : (n : ℕ) → ReturnModeFrom n (return_of n)
 unfolding return_of
 return_mode_from_is_met n =
-    let r = return_mode_read (name_of return_flag return_modes n) in
+    let r = flag_read (name_of return_flag return_modes n) in
     record { κ = tt; arguments = (n, tt); answer = r.0; after = (n, tt); taken = refl; left = r.1; learnt_so = r.1 }
 
 pub return_mode_number_is_met : (x : ReturnMode) → ReturnModeNumber x (return_flag x)
 return_mode_number_is_met x = record { κ = tt; arguments = (x, tt); answer = return_flag x; after = (x, tt); taken = refl; left = refl; learnt_so = refl }
 
 abbrev pub RestrictionsFrom : ℕ → Answer DeviceRestrictions → Type 0
-RestrictionsFrom n r = May restrictions_from.Learnt {S = ℕ} {T = Answer DeviceRestrictions} (λ κ a. a.0) (λ κ r e. restrictions_answer r) n r
+RestrictionsFrom n r = May restrictions_from.Learnt {S = ℕ} {T = Answer DeviceRestrictions} (λ κ a. a.0) (λ κ r e. flag_answer r) n r
 
 pub restrictions_from_so : (n : ℕ) (r : Answer DeviceRestrictions) → RestrictionsFrom n r → r ≡ restrictions_of n
 restrictions_from_so n r d = sym d.left ∙ d.learnt_so ∙ ap restrictions_of d.taken
@@ -220,14 +223,10 @@ RestrictionsNumber x k = May restrictions_number.Learnt {S = DeviceRestrictions}
 pub restrictions_number_so : (x : DeviceRestrictions) (k : ℕ) → RestrictionsNumber x k → k ≡ restrictions_bits x
 restrictions_number_so x k d = sym d.left ∙ d.learnt_so ∙ ap restrictions_bits d.taken
 
-restrictions_read : (o : Option DeviceRestrictions) → (r : RestrictionsRead) × (restrictions_answer r ≡ or_12 o)
-restrictions_read none = (RestrictionsRead.Refused, refl)
-restrictions_read (some x) = (RestrictionsRead.Is x, refl)
-
 pub restrictions_from_is_met : (n : ℕ) → RestrictionsFrom n (restrictions_of n)
 unfolding restrictions_of
 restrictions_from_is_met n =
-    let r = restrictions_read (name_of restrictions_bits restrictions n) in
+    let r = flag_read (name_of restrictions_bits restrictions n) in
     record { κ = tt; arguments = (n, tt); answer = r.0; after = (n, tt); taken = refl; left = r.1; learnt_so = r.1 }
 
 pub restrictions_number_is_met : (x : DeviceRestrictions) → RestrictionsNumber x (restrictions_bits x)

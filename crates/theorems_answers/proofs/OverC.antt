@@ -20,7 +20,6 @@ use Rattle.c_section.specs.declared.sections.FlatSection.{FlatSection}
 use Rattle.c_section_writer.specs.SectionWords.{header_words}
 use Rattle.canonical_form.specs.Descriptor.{canonical_loop}
 use Rattle.command.specs.Command.{by_type, command_of}
-use Rattle.command.specs.declared.CommandRead.{CommandRead}
 use Rattle.crc.proofs.Vectors.{check_value}
 use Rattle.descriptor_loop.proofs.Places.{all_into}
 use Rattle.descriptor_loop.specs.Cover.{run_of}
@@ -41,7 +40,6 @@ use Rattle.names.specs.declared.algorithm.EncryptionAlgorithm.{EncryptionAlgorit
 use Rattle.scte35.specs.declared.numbers.FlatNumber.{FlatNumber}
 use Rattle.section.proofs.Parts.{parts_of_lem}
 use Rattle.section.specs.Section.{command_length, command_type, command_bytes, conditions, None}
-use Rattle.section.specs.declared.SectionRead.{SectionRead}
 use Rattle.section_writer.proofs.Theorems.{canonical_parts}
 use Rattle.table.proofs.Structure.{bytes_take, bytes_drop}
 use Rattle.table.specs.Bits.{pick, big_endian, AllBytes}
@@ -62,6 +60,7 @@ use Rattle.theorems_answers.proofs.Contracts.{ReadsHeaderC, reads_header_c_so, R
 use Rattle.theorems_answers.proofs.Crc.{by_crc, last_four}
 use Rattle.theorems_answers.proofs.Headers.{flat_header_lem, type_there}
 use Rattle.theorems_answers.proofs.Numbers.{name_classed, flag_answered}
+use Rattle.std.proofs.Common.{Ok}
 
 -- ---- the header
 
@@ -70,7 +69,7 @@ pub a_header_over_c_is_that_of_its_bytes : (b : List ℕ) (f : FlatHeader) → R
 a_header_over_c_is_that_of_its_bytes b f d = reads_header_c_so d ∙ flat_header_lem b
 
 -- the words that are read of an accepted section
-flat_read : (s : List ℕ) (f : FlatSection) (d : ReadsSectionC s f) (z : f.refusal ≡ 0) → f ≡ flat_section_read (SectionRead.Is (functions.accepted s f d z).section)
+flat_read : (s : List ℕ) (f : FlatSection) (d : ReadsSectionC s f) (z : f.refusal ≡ 0) → f ≡ flat_section_read (Ok (functions.accepted s f d z).section)
 flat_read s f d z = functions.reads_section_so d ∙ ap flat_section_read (functions.accepted s f d z).is
 
 header_of_lem : (s : List ℕ) (f : FlatSection) → ReadsSectionC s f → f.refusal ≡ 0 → f.header ≡ flat_header_read (header_of (drop 3 s))
@@ -148,8 +147,8 @@ pub what_is_written_of_a_command_over_c_has_its_words : (words components lent t
     → (f.refusal ≡ 0) × (same (take 19 (command_words f)) words ≡ true)
 what_is_written_of_a_command_over_c_has_its_words words components lent target answer later f a p z d =
     let w = what_is_written_of_a_command_over_c_is_read_back words components lent target answer later a p z in
-    let e : f ≡ flat_command_read (CommandRead.Is w.payload.again) = reads_command_c_so d ∙ commands.payload_again_lem words components lent _ w in (
-      ap (λ (v : FlatCommand). v.refusal) e ∙ commands.flat_number (CommandRead.Is w.payload.again),
+    let e : f ≡ flat_command_read (Ok w.payload.again) = reads_command_c_so d ∙ commands.payload_again_lem words components lent _ w in (
+      ap (λ (v : FlatCommand). v.refusal) e ∙ commands.flat_number (Ok w.payload.again),
       ap (λ (v : FlatCommand). same (take 19 (command_words v)) words) e ∙ commands.words_again words components lent _ w,
     )
 

@@ -49,7 +49,7 @@ algorithm_class n = pick (ltb n 32) 1 2
 abbrev pub or_twelve : List ℕ → ℕ → FlatNumber
 or_twelve names n = pick (among n names) (record { refusal = 0; class = 0; number = n }) (record { refusal = 12; class = 0; number = 0 })
 
--- ---- in Rattle: what `from_id`, `id` and `writable` of an enum may answer
+-- ---- in Rattle: what `from`, `into` and `writable` of an enum may answer
 pub record Numbered {A : Type 0} (From : ℕ → A → Type 0) (Id : A → ℕ → Type 0) (Writable : A → Bool → Type 0) : Type 0 where
   -- the value that a number stands for has that number
   pub number : (n k : ℕ) (x : A) → From n x → Id x k → k ≡ n
@@ -57,7 +57,7 @@ pub record Numbered {A : Type 0} (From : ℕ → A → Type 0) (Id : A → ℕ �
   pub own : (x y : A) (k : ℕ) → Writable x true → Id x k → From k y → y ≡ x
   pub only : (x : A) (k : ℕ) (b : Bool) → Id x k → From k x → Writable x b → b ≡ true
 
--- `from_flag` and `flag`, or `from_bits` and `bits`: the numbers below `count` have a value
+-- `try_from` and `into`: the numbers below `count` have a value
 pub record Flagged {A : Type 0} (From : ℕ → Answer A → Type 0) (Number : A → ℕ → Type 0) (count : ℕ) : Type 0 where
   pub number : (n k : ℕ) (x : A) → From n (gives x) → Number x k → k ≡ n
   pub own : (x : A) (k : ℕ) (r : Answer A) → Number x k → From k r → r ≡ gives x

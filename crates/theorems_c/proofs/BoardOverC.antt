@@ -4,6 +4,7 @@ use Prim.Native.Nat.{ℕ, ◌≤◌}
 use mathlib.Core.List.{List, [], ◌∷◌, map}
 use mathlib.Core.Path.{◌≡◌, refl, sym, ◌∙◌, ap, ap₂}
 use lib.ListN.{length}
+use Rattle.board.specs.Calls.{May}
 use Rattle.board.specs.Runs.{Call}
 use Rattle.board.specs.Runs.Call.{opening, closing}
 use Rattle.channels.specs.Runs.{On, no_lists, list_replies}
@@ -14,7 +15,7 @@ use Rattle.c_board.proofs.Theorems.{lent_board_is_two_lists}
 use Rattle.scte35.proofs.shared_board.scte35_board_empty.Reads as board_empty
 use Rattle.scte35.proofs.shared_board.scte35_board_open.Reads as board_open
 use Rattle.scte35.proofs.shared_board.scte35_board_close.Reads as board_close
-use Rattle.theorems_c.specs.Boards.{May, LentRun}
+use Rattle.theorems_c.specs.Boards.{LentRun}
 use Rattle.theorems_c.specs.Boards.LentRun.{nothing, then}
 
 -- ---- what the contracts allow

@@ -17,14 +17,11 @@ use Rattle.descriptor.specs.declared.Descriptor.{Descriptor}
 use Rattle.descriptor.specs.declared.plain.AvailDescriptor.{AvailDescriptor}
 use Rattle.descriptor.specs.declared.plain.DTMFDescriptor.{DTMFDescriptor}
 use Rattle.descriptor.specs.declared.plain.TimeDescriptor.{TimeDescriptor}
-use Rattle.descriptor.specs.declared.segmentation.DeliveryRestrictionFlags.{DeliveryRestrictionFlags}
 use Rattle.descriptor.specs.declared.segmentation.SegmentationComponent.{SegmentationComponent}
 use Rattle.descriptor.specs.declared.segmentation.SegmentationDescriptor.{SegmentationDescriptor}
 use Rattle.descriptor.specs.declared.segmentation.DescriptorDetail.{DescriptorDetail}
-use Rattle.descriptor.specs.declared.segmentation.SegmentationDuration.{SegmentationDuration}
 use Rattle.descriptor.specs.declared.segmentation.SegmentationDetail.{SegmentationDetail}
 use Rattle.descriptor.specs.declared.segmentation.SegmentationMode.{SegmentationMode}
-use Rattle.descriptor.specs.declared.segmentation.SubSegments.{SubSegments}
 use Rattle.descriptor.specs.declared.full.Beside.{Beside}
 use Rattle.descriptor_measure.proofs.Refusals.{view_out, upid_long, numbers_over}
 use Rattle.descriptor_measure.specs.Private.{components_fields, mode_fields, duration_fields, numbers_fit}
@@ -38,7 +35,6 @@ use Rattle.c_descriptor_writer.proofs.Typed.{TypedSubs, TypedActive, TypedDetail
 use Rattle.c_items.specs.FlatItem.{flat_restrictions, flat_sub_segments, active_segmentation, segmentation_head, segmentation_item, flat_descriptor, flat_item, refusal_in, values_in, flat_step, flat_component, flat_beside}
 use Rattle.c_command_writer.proofs.Words.{and_unit, places_length}
 use Rattle.c_command_writer.specs.Words.{within, same, places_of, each_place, refusal_of, seen_first, no_less}
-use Rattle.descriptor_loop.specs.declared.Item.{Item}
 use Rattle.descriptor_loop.specs.declared.Step.{Step}
 use Rattle.names.specs.Flags.{restrictions_bits}
 use Rattle.names.specs.Segmentation.{segmentation_number}
@@ -54,6 +50,9 @@ use Rattle.table.specs.Writing.{Made, made, refused, Field, make, make_of, seen,
 use Rattle.table.specs.declared.View.{View}
 use Rattle.theorems_c.specs.OverC.{step_words, pairs_words, beside_words}
 use Rattle.theorems_c.proofs.OverC.{same_self, Wide, taken, flag_within}
+use Rattle.std.proofs.Common.{Ok, Some, None, Option}
+use Rattle.descriptor.specs.declared.segmentation.DeliveryRestrictions.{DeliveryRestrictions}
+use Rattle.descriptor.specs.declared.segmentation.SubSegment.{SubSegment}
 
 -- ---- what the types say of what stands beside an item
 
@@ -148,14 +147,14 @@ view_small v lent s e =
     (lt-ltb v.at (2 ^ 64) (omega (arith, h, s)), lt-ltb v.len (2 ^ 64) (omega (arith, h, s)))
 
 -- ---- the parts of a segmentation descriptor
-restrictions_within : (d : DeliveryRestrictionFlags)
+restrictions_within : (d : Option DeliveryRestrictions)
     → (ltb (flat_restrictions d).web_delivery_allowed_flag 2 ≡ true)
     × (ltb (flat_restrictions d).no_regional_blackout_flag 2 ≡ true)
     × (ltb (flat_restrictions d).archive_allowed_flag 2 ≡ true)
     × (ltb (flat_restrictions d).device_restrictions 4 ≡ true)
 unfolding flat_restrictions
-restrictions_within DeliveryRestrictionFlags.None = (refl, refl, refl, refl)
-restrictions_within (DeliveryRestrictionFlags.DeliveryRestrictions d) =
+restrictions_within None = (refl, refl, refl, refl)
+restrictions_within (Some d) =
     (flag_within d.web_delivery_allowed_flag, flag_within d.no_regional_blackout_flag, flag_within d.archive_allowed_flag, device d.device_restrictions)
   where
     device : (d : DeviceRestrictions) → ltb (restrictions_bits d) 4 ≡ true
@@ -164,15 +163,15 @@ restrictions_within (DeliveryRestrictionFlags.DeliveryRestrictions d) =
     device DeviceRestrictions.RestrictGroup2 = refl
     device DeviceRestrictions.None = refl
 
-subs_within : (s : SubSegments) → TypedSubs s
+subs_within : (s : Option SubSegment) → TypedSubs s
     → (ltb (flat_sub_segments s).present 2 ≡ true) × (ltb (flat_sub_segments s).sub_segment_num 256 ≡ true) × (ltb (flat_sub_segments s).sub_segments_expected 256 ≡ true)
 unfolding flat_sub_segments
-subs_within SubSegments.Absent h = (refl, refl, refl)
-subs_within (SubSegments.Is x) h = (refl, lt-ltb x.sub_segment_num 256 h.0, lt-ltb x.sub_segments_expected 256 h.1)
+subs_within None h = (refl, refl, refl)
+subs_within (Some x) h = (refl, lt-ltb x.sub_segment_num 256 h.0, lt-ltb x.sub_segments_expected 256 h.1)
 
-duration_fits : (d : SegmentationDuration) → writing.within (duration_fields d) ≡ true → ltb (ticks d) (2 ^ 40) ≡ true
-duration_fits SegmentationDuration.Absent e = refl
-duration_fits (SegmentationDuration.Ticks n) e = (and_true (ltb n (2 ^ 40)) true e).0
+duration_fits : (d : Option ℕ) → writing.within (duration_fields d) ≡ true → ltb (ticks d) (2 ^ 40) ≡ true
+duration_fits None e = refl
+duration_fits (Some n) e = (and_true (ltb n (2 ^ 40)) true e).0
 
 components_fit : (m : SegmentationMode) (cs : List SegmentationComponent) → writing.within (mode_fields m (take (count_of m) cs)) ≡ true → writing.within (components_fields (take (count_of m) cs)) ≡ true
 components_fit SegmentationMode.Program cs e = refl
@@ -460,7 +459,7 @@ module _ (number : ℕ) (id : List ℕ) (beside : Beside) (lent : List ℕ) (sma
 
 -- ---- the step
 pub descriptor_taken : (d : Descriptor) (next : ℕ) (id : List ℕ) (beside : Beside) (lent : List ℕ) → Typed d → TypedBeside id beside → length lent < 2 ^ 64
-    → (let step : Step = record { item = Item.Is d; identifier = id; next = next } in
+    → (let step : Step = record { item = Some (Ok d); identifier = id; next = next } in
     descriptor_words_made (step_words (flat_step step)) (beside_words (flat_beside (record { step = step; beside = beside }))) lent ≡ descriptor_made d id beside lent)
 unfolding flat_step flat_beside refusal_in values_in flat_item
 descriptor_taken d next id beside lent typed t short =

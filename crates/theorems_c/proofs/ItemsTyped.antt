@@ -16,7 +16,6 @@ use Rattle.descriptor.specs.declared.segmentation.DescriptorDetail.{DescriptorDe
 use Rattle.descriptor.specs.declared.segmentation.SegmentationDetail.{SegmentationDetail}
 use Rattle.descriptor.specs.declared.segmentation.SegmentationMode.{SegmentationMode}
 use Rattle.descriptor.specs.declared.segmentation.SegmentationUpid.{SegmentationUpid}
-use Rattle.descriptor.specs.declared.segmentation.SubSegments.{SubSegments}
 use Rattle.descriptor.specs.declared.full.Beside.{Beside}
 use Rattle.descriptor_measure.proofs.Fields.{fields_are}
 use Rattle.descriptor_measure.proofs.Making.{counted, all_writable, by_table}
@@ -31,6 +30,8 @@ use Rattle.table.proofs.Structure.{wrote}
 use Rattle.table.specs.Bits.{pick, AllBytes}
 use Rattle.table.specs.Table.{flag_number, number, reserved, part}
 use Rattle.table.specs.Writing.{walk, within, Made, made, refused}
+use Rattle.std.proofs.Common.{Some, None, Option}
+use Rattle.descriptor.specs.declared.segmentation.SubSegment.{SubSegment}
 
 -- ---- a frame that is written, and its payload
 enveloped_made_lem : (tag : ℕ) (id : List ℕ) (m : Made) (t : List ℕ) → enveloped_made tag id m ≡ made t → (p : List ℕ) × (m ≡ made p) × (t ≡ enveloped tag id p)
@@ -51,9 +52,9 @@ mode_typed : (m : SegmentationMode) (cs : List SegmentationComponent) → within
 mode_typed SegmentationMode.Program cs w = tt
 mode_typed (SegmentationMode.Component n) cs w = ltb-true _ _ (and_true (ltb n (2 ^ 8)) _ w).0
 
-subs_typed : (s : SubSegments) → within (sub_fields s) ≡ true → TypedSubs s
-subs_typed SubSegments.Absent w = tt
-subs_typed (SubSegments.Is x) w =
+subs_typed : (s : Option SubSegment) → within (sub_fields s) ≡ true → TypedSubs s
+subs_typed None w = tt
+subs_typed (Some x) w =
     let a = and_true (ltb x.sub_segment_num (2 ^ 8)) _ w in
     let b = and_true (ltb x.sub_segments_expected (2 ^ 8)) _ a.1 in
     (ltb-true _ _ a.0, ltb-true _ _ b.0)

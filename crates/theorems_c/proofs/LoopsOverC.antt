@@ -13,7 +13,6 @@ use Rattle.descriptor.specs.Segmentation as table
 use Rattle.descriptor.specs.Segmentation.{Moded, ListedFront, Head, blank_component, component, mode, duration, delivery_restrictions, parts, front, back, head, front_of, segmentation}
 use Rattle.descriptor.specs.Full.{filled, blank_beside, beside_in, beside_of, beside_read, identifier_read, full_of}
 use Rattle.descriptor.specs.declared.Descriptor.{Descriptor}
-use Rattle.descriptor.specs.declared.DescriptorRead.{DescriptorRead}
 use Rattle.descriptor.specs.declared.segmentation.SegmentationComponent.{SegmentationComponent}
 use Rattle.descriptor.specs.declared.segmentation.DescriptorDetail.{DescriptorDetail}
 use Rattle.descriptor.specs.declared.full.Beside.{Beside}
@@ -23,14 +22,12 @@ use Rattle.c_descriptor_writer.specs.ItemGiven.{descriptor_words_made}
 use Rattle.c_items.specs.FlatItem.{flat_step, flat_beside}
 use Rattle.descriptor_loop.specs.Cover.{run_of}
 use Rattle.descriptor_loop.specs.Items.{step_of, reading_of, listed, items_of}
-use Rattle.descriptor_loop.specs.declared.Item.{Item}
 use Rattle.descriptor_loop.specs.declared.Step.{Step}
 use Rattle.descriptor_loop.specs.declared.reading.Reading.{Reading}
 use Rattle.loop_round_trips.proofs.Loops.{back_at, identifier_is, beside_is}
 use Rattle.loop_round_trips.proofs.Pieces.{At, said, run_is}
 use Rattle.section.specs.Section.{section_of, loop_in}
 use Rattle.section.specs.declared.Section.{Section}
-use Rattle.section.specs.declared.SectionRead.{SectionRead}
 use Rattle.canonical_form.specs.Section.{canonical_section}
 use Rattle.table.proofs.Reading.{field_lt}
 use Rattle.table.proofs.Steps.{reads_in, reads_number, reads_flag, reads_ones}
@@ -46,6 +43,9 @@ use Rattle.theorems_c.proofs.ItemsOverC.{ModeTags, TypedBeside, descriptor_taken
 use Rattle.theorems_c.proofs.ItemsTyped.{written_typed}
 use Rattle.theorems_writer.proofs.ItemsWritten.{all_viewed, each_item}
 use Rattle.theorems_reader.proofs.Sections.{loop_short}
+use Rattle.std.proofs.Common.{Ok, Err, Some, Option, Result}
+use Rattle.upid.specs.declared.Refusal.{Refusal}
+use Rattle.descriptor_loop.specs.declared.ItemRefusal.{ItemRefusal}
 
 got_same : {X : Type 0} {x y : X} {m n : ℕ} → got x m ≡ got y n → x ≡ y
 got_same e = cc
@@ -171,21 +171,21 @@ beside_sized p a = go (parse segmentation (bits_of p) 0) refl
     go (short expected actual) e = blank_sized
 
 module _ (id p : List ℕ) (a : AllBytes p) where
-  read_sized : (r : DescriptorRead) → Sized (beside_read r p)
-  read_sized (DescriptorRead.Is (Descriptor.Avail x)) = blank_sized
-  read_sized (DescriptorRead.Is (Descriptor.Dtmf x)) = blank_sized
-  read_sized (DescriptorRead.Is (Descriptor.Segmentation x)) = beside_sized p a
-  read_sized (DescriptorRead.Is (Descriptor.Time x)) = blank_sized
-  read_sized (DescriptorRead.Is (Descriptor.Reserved tag v)) = blank_sized
-  read_sized (DescriptorRead.Refused n) = blank_sized
+  read_sized : (r : Result Descriptor Refusal) → Sized (beside_read r p)
+  read_sized (Ok (Descriptor.Avail x)) = blank_sized
+  read_sized (Ok (Descriptor.Dtmf x)) = blank_sized
+  read_sized (Ok (Descriptor.Segmentation x)) = beside_sized p a
+  read_sized (Ok (Descriptor.Time x)) = blank_sized
+  read_sized (Ok (Descriptor.Reserved tag v)) = blank_sized
+  read_sized (Err n) = blank_sized
 
-  read_identified : (r : DescriptorRead) → length id ≡ 4 → AllBytes id → (length (identifier_read r id) ≡ 4) × AllBytes (identifier_read r id)
-  read_identified (DescriptorRead.Is (Descriptor.Avail x)) l b = (refl, zeros 4)
-  read_identified (DescriptorRead.Is (Descriptor.Dtmf x)) l b = (refl, zeros 4)
-  read_identified (DescriptorRead.Is (Descriptor.Segmentation x)) l b = (refl, zeros 4)
-  read_identified (DescriptorRead.Is (Descriptor.Time x)) l b = (refl, zeros 4)
-  read_identified (DescriptorRead.Is (Descriptor.Reserved tag v)) l b = (l, b)
-  read_identified (DescriptorRead.Refused n) l b = (refl, zeros 4)
+  read_identified : (r : Result Descriptor Refusal) → length id ≡ 4 → AllBytes id → (length (identifier_read r id) ≡ 4) × AllBytes (identifier_read r id)
+  read_identified (Ok (Descriptor.Avail x)) l b = (refl, zeros 4)
+  read_identified (Ok (Descriptor.Dtmf x)) l b = (refl, zeros 4)
+  read_identified (Ok (Descriptor.Segmentation x)) l b = (refl, zeros 4)
+  read_identified (Ok (Descriptor.Time x)) l b = (refl, zeros 4)
+  read_identified (Ok (Descriptor.Reserved tag v)) l b = (l, b)
+  read_identified (Err n) l b = (refl, zeros 4)
 
 full_typed : (t : List ℕ) → AllBytes t → 6 ≤ length t → TypedBeside (full_in t).identifier (full_in t).beside
 unfolding full_of
@@ -198,11 +198,11 @@ full_typed t a h =
     record { four = i.0; identifier_bytes = i.1; places = s.places; tags = s.tags; twelve = s.twelve; eidr_bytes = s.eidr_bytes }
 
 -- ---- an item, and all of them
-step_is : (s : Step) (d : Descriptor) → s.item ≡ Item.Is d → s ≡ record { item = Item.Is d; identifier = s.identifier; next = s.next }
-step_is s d e = ap (λ (i : Item). record { item = i; identifier = s.identifier; next = s.next }) e
+step_is : (s : Step) (d : Descriptor) → s.item ≡ Some (Ok d) → s ≡ record { item = Some (Ok d); identifier = s.identifier; next = s.next }
+step_is s d e = ap (λ (i : Option (Result Descriptor ItemRefusal)). record { item = i; identifier = s.identifier; next = s.next }) e
 
-reading_is_lem : (loop : List ℕ) (o : ℕ) (d : Descriptor) → (step_of loop o).item ≡ Item.Is d
-    → reading_of loop o ≡ record { step = record { item = Item.Is d; identifier = (step_of loop o).identifier; next = (step_of loop o).next }; beside = (reading_of loop o).beside }
+reading_is_lem : (loop : List ℕ) (o : ℕ) (d : Descriptor) → (step_of loop o).item ≡ Some (Ok d)
+    → reading_of loop o ≡ record { step = record { item = Some (Ok d); identifier = (step_of loop o).identifier; next = (step_of loop o).next }; beside = (reading_of loop o).beside }
 unfolding reading_of
 reading_is_lem loop o d e = ap (λ (s : Step). record { step = s; beside = (reading_of loop o).beside }) (step_is (step_of loop o) d e)
 
@@ -218,6 +218,6 @@ module _ (loop : List ℕ) (fits : length loop ≤ 4076) where
       ap₂ (λ (s : Step) (r : Reading). descriptor_words_made (step_words (flat_step s)) (beside_words (flat_beside r)) loop) (step_is (step_of loop o) d b.is) (reading_is_lem loop o d b.is)
       ∙ descriptor_taken d (step_of loop o).next id side loop typed types (omega (arith, fits)) ∙ b.writes ∙ ap made (sym (run_is loop fits o t a))
 
-pub items_again : (s : List ℕ) (x : Section) → AllBytes s → section_of s ≡ SectionRead.Is x → canonical_section s ≡ true
+pub items_again : (s : List ℕ) (x : Section) → AllBytes s → section_of s ≡ Ok x → canonical_section s ≡ true
     → All (λ y. words_made_at (loop_in s x) y ≡ made (run_of (loop_in s x) y)) (items_of (loop_in s x))
 items_again s x a e c = each_item s x a e c (words_at (loop_in s x) (loop_short s x e))

@@ -9,7 +9,6 @@ use lib.ListN.{length, take}
 use lib.Seq.{length-take-le}
 use borrow.Author.Tests.{ltb-false, eq-eqb}
 use Rattle.command.specs.Command.{array, count_in}
-use Rattle.command.specs.declared.CommandRead.{CommandRead}
 use Rattle.command.specs.declared.SpliceCommand.{SpliceCommand}
 use Rattle.command.specs.declared.components.InsertComponent.{InsertComponent}
 use Rattle.command_measure.specs.Made.{insert_made, command_made}
@@ -33,6 +32,7 @@ use Rattle.table.specs.Bits.{pick}
 use Rattle.table.specs.Table.{flag_number}
 use Rattle.table.specs.Writing.{Made, made, refused}
 use Rattle.theorems_c.specs.OverC.{insert_components_words}
+use Rattle.std.proofs.Common.{Ok}
 
 -- ---- words that are a value's own are not refused for themselves
 pub same_self : (words : List ℕ) → same words words ≡ true
@@ -83,7 +83,7 @@ places_front (suc n) (c ∷ cs) =
 
 module _ (places : List InsertComponent) (lent : List ℕ) (short : length lent < 2 ^ 64) (c : SpliceCommand) (there : count_in c ≤ length places) where
   abbrev beside : List ℕ
-  beside = insert_components_words (flat_insert_components (CommandRead.Is c) places)
+  beside = insert_components_words (flat_insert_components (Ok c) places)
 
   own_words : CommandIs (command_words (flat_command c)) beside c (take (count_in c) places)
   unfolding flat_insert_components

@@ -22,7 +22,6 @@ use Rattle.descriptor_loop.specs.Items.{items_of}
 use Rattle.descriptor_round_trips.specs.Trips.{Handed}
 use Rattle.section.specs.Section.{section_of, loop_in}
 use Rattle.section.specs.declared.Section.{Section}
-use Rattle.section.specs.declared.SectionRead.{SectionRead}
 use Rattle.canonical_form.specs.Section.{canonical_section}
 use Rattle.table.specs.Bits.{AllBytes}
 use Rattle.table.specs.Writing.{Made, made}
@@ -31,6 +30,7 @@ use Rattle.theorems_c.specs.OverC.{components_answered, insert_components_words,
 use Rattle.theorems_c.proofs.HandedOverC as handed_over_c
 use Rattle.theorems_c.proofs.LoopsOverC as loops_over_c
 use Rattle.theorems_c.proofs.SectionsOverC as sections_over_c
+use Rattle.std.proofs.Common.{Ok}
 
 -- ---- over the C boundary
 
@@ -52,7 +52,7 @@ section_answers_are_one = section_answers.one_answer
 
 -- Demand 2 over C: writing the words that are read of a canonical section gives its bytes: its header's and its command's, as `scte35_read_section` answers them
 -- (without the header's last two, the command's length and type, which are not looked at), those of its components, as `scte35_read_insert_components` answers them, and its loop as it stands in the section
-pub a_canonical_section_is_what_is_written_of_its_words : (s : List ℕ) (x : Section) → AllBytes s → section_of s ≡ SectionRead.Is x → canonical_section s ≡ true
+pub a_canonical_section_is_what_is_written_of_its_words : (s : List ℕ) (x : Section) → AllBytes s → section_of s ≡ Ok x → canonical_section s ≡ true
     → section_words_made (header_words (flat_section_read (section_of s)).header) (command_words (flat_section_read (section_of s)).command)
     (insert_components_words (components_answered s)) s (loop_in s x) ≡ made s
 a_canonical_section_is_what_is_written_of_its_words = sections_over_c.section_again
@@ -77,6 +77,6 @@ pub the_value_that_words_make_is_handed : (words beside lent : List ℕ) (d : De
 the_value_that_words_make_is_handed = handed_over_c.words_handed
 
 -- and by items: each item of a canonical section is written of its words as its own bytes, which joined are its loop (`a_canonical_section_is_what_is_written_of_its_items`)
-pub the_items_of_a_canonical_section_are_written_of_their_words : (s : List ℕ) (x : Section) → AllBytes s → section_of s ≡ SectionRead.Is x → canonical_section s ≡ true
+pub the_items_of_a_canonical_section_are_written_of_their_words : (s : List ℕ) (x : Section) → AllBytes s → section_of s ≡ Ok x → canonical_section s ≡ true
     → All (λ y. words_made_at (loop_in s x) y ≡ made (run_of (loop_in s x) y)) (items_of (loop_in s x))
 the_items_of_a_canonical_section_are_written_of_their_words = loops_over_c.items_again

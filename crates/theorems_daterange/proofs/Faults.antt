@@ -2,7 +2,6 @@
 use Prim.Native.Nat.{ℕ}
 use mathlib.Core.Bool.{Bool, true, false, not, ◌&&◌, ◌||◌}
 use mathlib.Core.List.{List, [], ◌∷◌, ◌++◌}
-use mathlib.Core.Option.{Option, none, some}
 use mathlib.Core.Path.{◌≡◌, refl, sym, subst, ◌∙◌, ap}
 use borrow.Author.Tests.{eq-eqb, le-leb, lt-leb}
 use lib.ListN.{length}
@@ -15,12 +14,15 @@ use Rattle.daterange_line.specs.Reading.{id_name, date_name, cue_name, known_of,
 use Rattle.daterange_line.specs.declared.Cue.{Cue}
 use Rattle.daterange_line.specs.declared.Cue.TheVariants.{Cmd, Out, In}
 use Rattle.daterange_line.specs.declared.Known.{Known}
-use Rattle.daterange_line.specs.declared.Read.{Read}
 use Rattle.table.proofs.Lists.{zero_one}
 use Rattle.table.specs.Bits.{pick}
 use Rattle.upid.proofs.Laws.{by_cases}
 use Rattle.upid.specs.Cover.{All}
 use Rattle.theorems_daterange.specs.Faults.{NoSequence, Misfit, Faulty, Lacking, LineRead}
+use Rattle.std.specs.Prelude.{Option, Some, None, Result}
+use Rattle.daterange_line.specs.declared.Reading.{Reading}
+use Rattle.daterange_line.specs.declared.LineRefusal.{LineRefusal}
+use Rattle.daterange_line.specs.declared.LineRefusal.TheVariants.{MalformedLine, AttributeMissing}
 
 -- ---- names
 
@@ -128,7 +130,6 @@ repeated_if (a ∷ l) e = go (named a.name l) refl (λ f. repeated_if l f) e
     go false n again e = faulty_later a (again e)
 
 unfit_if : (l : List Attribute) → all fitting l ≡ false → Faulty l
-unfolding all
 unfit_if [] e = zero_one cc
 unfit_if (a ∷ l) e = go (fitting a) refl (λ f. unfit_if l f) e
   where
@@ -158,7 +159,6 @@ repeats_at [] q r a b e = rw (named_at a.name q r b (sym e))
 repeats_at (c ∷ p) q r a b e = rw (repeats_at p q r a b e) (or_true (named c.name (p ++ (a ∷ (q ++ (b ∷ r))))))
 
 unfit_at : (p r : List Attribute) (a : Attribute) → fitting a ≡ false → all fitting (p ++ (a ∷ r)) ≡ false
-unfolding all
 unfit_at [] r a f = rw f
 unfit_at (c ∷ p) r a f = rw (unfit_at p r a f) (and_false (fitting c))
 
@@ -255,18 +255,18 @@ module _ (line target : List ℕ) where
   fine_so : (l : List Attribute) → Line l line → (Faulty l → ⊥) → (Lacking l → ⊥) → judge (attributes_of line) ≡ fine l
   fine_so l h f n = judged_by line l h ∙ rw (sound l f, complete l n)
 
-  pub answer_is : {answer : Read} {later : List ℕ} → LineRead line target answer later → (answer ≡ read_of line target) × (later ≡ read_later line target)
+  pub answer_is : {answer : Result Reading LineRefusal} {later : List ℕ} → LineRead line target answer later → (answer ≡ read_of line target) × (later ≡ read_later line target)
   unfolding read_by section_made answer_of later_of
   answer_is (LineRead.unlisted n) = let j = refused_none line n in (rw j, rw j)
-  answer_is (LineRead.faulty l h f) = let j : judge (attributes_of line) ≡ fault 52 = judged_by line l h ∙ rw (faulty_so l f) in (rw j, rw j)
-  answer_is (LineRead.lacking l h f n) = let j : judge (attributes_of line) ≡ fault 51 = judged_by line l h ∙ rw (sound l f, lacking_so l n) in (rw j, rw j)
+  answer_is (LineRead.faulty l h f) = let j : judge (attributes_of line) ≡ fault MalformedLine = judged_by line l h ∙ rw (faulty_so l f) in (rw j, rw j)
+  answer_is (LineRead.lacking l h f n) = let j : judge (attributes_of line) ≡ fault AttributeMissing = judged_by line l h ∙ rw (sound l f, lacking_so l n) in (rw j, rw j)
   answer_is (LineRead.short l h f n s) = let j = fine_so l h f n in let k = lt-leb (length (section_of l)) (length target) s in (rw (j, k), rw (j, k))
   answer_is (LineRead.its l h f n s) = let j = fine_so l h f n in let k = le-leb (length (section_of l)) (length target) s in (rw (j, k), rw (j, k))
 
-  answered : (answer : Read) × (later : List ℕ) × LineRead line target answer later
+  answered : (answer : Result Reading LineRefusal) × (later : List ℕ) × LineRead line target answer later
   answered = go (attributes_of line) refl
     where
-      judged : (l : List Attribute) → Line l line → (a : Bool) → faults l ≡ a → (b : Bool) → has l ≡ b → (answer : Read) × (later : List ℕ) × LineRead line target answer later
+      judged : (l : List Attribute) → Line l line → (a : Bool) → faults l ≡ a → (b : Bool) → has l ≡ b → (answer : Result Reading LineRefusal) × (later : List ℕ) × LineRead line target answer later
       judged l h true f b n = (_, _, LineRead.faulty l h (faulty_if l f))
       judged l h false f false n = (_, _, LineRead.lacking l h (λ x. let z = faulty_so l x in zero_one cc) (lacking_if l n))
       judged l h false f true n =
@@ -274,15 +274,15 @@ module _ (line target : List ℕ) where
           let all : Lacking l → ⊥ = λ x. let z = lacking_so l x in zero_one cc in
           by_cases (length target) (length (section_of l)) (λ s. (_, _, LineRead.short l h none all s)) (λ s. (_, _, LineRead.its l h none all s))
 
-      go : (o : Option (List Attribute)) → attributes_of line ≡ o → (answer : Read) × (later : List ℕ) × LineRead line target answer later
-      go none e = (_, _, LineRead.unlisted (λ l h. let z = line_exact line l h in zero_one cc))
-      go (some l) e = judged l (line_sound line l e) (faults l) refl (has l) refl
+      go : (o : Option (List Attribute)) → attributes_of line ≡ o → (answer : Result Reading LineRefusal) × (later : List ℕ) × LineRead line target answer later
+      go None e = (_, _, LineRead.unlisted (λ l h. let z = line_exact line l h in zero_one cc))
+      go (Some l) e = judged l (line_sound line l e) (faults l) refl (has l) refl
 
-  pub reads_so : {answer : Read} {later : List ℕ} → answer ≡ read_of line target → later ≡ read_later line target → LineRead line target answer later
+  pub reads_so : {answer : Result Reading LineRefusal} {later : List ℕ} → answer ≡ read_of line target → later ≡ read_later line target → LineRead line target answer later
   reads_so {answer} {later} e f =
       let x = answered in
       let y = answer_is x.2 in
-      subst (λ (v : List ℕ). LineRead line target answer v) (y.1 ∙ sym f) (subst (λ (r : Read). LineRead line target r x.1) (y.0 ∙ sym e) x.2)
+      subst (λ (v : List ℕ). LineRead line target answer v) (y.1 ∙ sym f) (subst (λ (r : Result Reading LineRefusal). LineRead line target r x.1) (y.0 ∙ sym e) x.2)
 
-  pub reads_one : (a b : Read) (x y : List ℕ) → LineRead line target a x → LineRead line target b y → (a ≡ b) × (x ≡ y)
+  pub reads_one : (a b : Result Reading LineRefusal) (x y : List ℕ) → LineRead line target a x → LineRead line target b y → (a ≡ b) × (x ≡ y)
   reads_one a b x y h g = let p = answer_is h in let q = answer_is g in (p.0 ∙ sym q.0, p.1 ∙ sym q.1)

@@ -4,6 +4,8 @@
 use mathlib.Core.Path.{◌≡◌, refl, sym, ◌∙◌}
 use Prim.Native.Nat.{◌%◌, ◌*◌, ◌+◌, ◌-◌, ◌/◌, ◌^◌}
 use lib.ListN.{get_or, length}
+use native.Mathlib.Omega.{arith}
+use Rattle.std.specs.Prelude.{Result, Ok, Err}
 use mathlib.Core.List.{[], ◌∷◌}
 use Rattle.command.specs.Command.{array, command_of, listed_of, number_of as commandNumberOf}
 use Rattle.command.specs.Insert.{insert}
@@ -18,17 +20,16 @@ use Rattle.splice_time.specs.Break.{break_duration, break_read}
 use Rattle.splice_time.specs.Time.{adjusted_of, splice_time, time_read}
 use Rattle.descriptor_loop.specs.Items.{count_of, reading_of, step_of}
 use Rattle.descriptor_loop.specs.Place.{view_of}
-use Rattle.names.specs.Algorithm.{algorithm_number, algorithm_of, writable_algorithm}
-use Rattle.names.specs.Command.{command_number, command_type_of, writable_command}
-use Rattle.names.specs.Flags.{network_answer, network_flag, network_of, restrictions_answer, restrictions_bits, restrictions_of, return_answer, return_flag, return_of}
-use Rattle.names.specs.Segmentation.{writable_segmentation, segmentation_number, segmentation_type_of}
-use Rattle.names.specs.Upid.{writable_upid_type, upid_type_number, upid_type_of}
-use Rattle.names.specs.declared.flags.NetworkRead.{NetworkRead}
-use Rattle.names.specs.declared.flags.RestrictionsRead.{RestrictionsRead}
-use Rattle.names.specs.declared.flags.ReturnRead.{ReturnRead}
+use Rattle.names.specs.Algorithm.{algorithm_number, algorithm_of, algorithms, writable_algorithm}
+use Rattle.names.specs.Command.{command_number, command_type_of, commands, writable_command}
+use Rattle.names.specs.Flags.{flag_answer, network_flag, network_of, restrictions_bits, restrictions_of, return_flag, return_of}
+use Rattle.names.specs.Numbering.{class_in, class_number}
+use Rattle.names.specs.Segmentation.{writable_segmentation, segmentation_number, segmentation_type_of, segmentations}
+use Rattle.names.specs.Upid.{writable_upid_type, upid_type_number, upid_type_of, upid_types}
+use Rattle.names.specs.declared.flags.UnknownNumber.{UnknownNumber}
+use Rattle.names.specs.declared.numbering.NumberClass.{NumberClass}
 use Rattle.section.specs.Section.{frame_of, moved_read, number_of, private_view, section_of}
 use Rattle.section.specs.Full.{full_section_of}
-use Rattle.section.specs.declared.SectionRead.{SectionRead}
 use Rattle.table.proofs.Lists.{zero_one}
 use Rattle.table.specs.Bits.{big_endian, bits_of, field}
 use Rattle.table.specs.Cursor.{flagged_of, passed_of, place, skipped_of, taken_of}
@@ -39,10 +40,7 @@ use Rattle.upid.specs.Upid.{check_of, eidr_of, part_view, upid_of}
 use Rattle.crc.proofs.crc32.Reads as crc32
 use Rattle.crc.proofs.crc32_plain.Reads as crc32_plain
 use Rattle.crc_table.proofs.reverse.Reads as reverse
-use Rattle.crc_table.proofs.first_byte.turned_56.Reads as turned_56
-use Rattle.crc_table.proofs.second_byte.turned_48.Reads as turned_48
-use Rattle.crc_table.proofs.third_byte.turned_40.Reads as turned_40
-use Rattle.crc_table.proofs.last_byte.turned_32.Reads as turned_32
+use Rattle.crc_table.proofs.turned.Reads as turned
 use Rattle.table.proofs.numbers.wide.Reads as wide
 use Rattle.table.proofs.numbers.size.Reads as size
 use Rattle.table.proofs.numbers.flag_number.Reads as flag_number
@@ -60,24 +58,28 @@ use Rattle.table.proofs.cursor.Cursor.pass.Reads as cursor_pass
 use Rattle.table.proofs.store.put_byte.Reads as put_byte
 use Rattle.table.proofs.store.put_number.Reads as put_number
 use Rattle.table.proofs.store.put_bytes.Reads as put_bytes
-use Rattle.names.proofs.algorithm.EncryptionAlgorithm.from_id.Reads as algorithm_from_id
-use Rattle.names.proofs.algorithm.EncryptionAlgorithm.id.Reads as algorithm_id
-use Rattle.names.proofs.algorithm.EncryptionAlgorithm.writable.Reads as algorithm_writable
-use Rattle.names.proofs.command.SpliceCommandType.from_id.Reads as command_type_from_id
-use Rattle.names.proofs.command.SpliceCommandType.id.Reads as command_type_id
-use Rattle.names.proofs.command.SpliceCommandType.writable.Reads as command_type_writable
-use Rattle.names.proofs.upid.SegmentationUpidType.from_type.Reads as upid_type_from_type
-use Rattle.names.proofs.upid.SegmentationUpidType.id.Reads as upid_type_id
-use Rattle.names.proofs.upid.SegmentationUpidType.writable.Reads as upid_type_writable
-use Rattle.names.proofs.segmentation.SegmentationTypeId.from_id.Reads as segmentation_type_from_id
-use Rattle.names.proofs.segmentation.SegmentationTypeId.id.Reads as segmentation_type_id
-use Rattle.names.proofs.segmentation.SegmentationTypeId.writable.Reads as segmentation_type_writable
-use Rattle.names.proofs.flags.NetworkIndicator.from_flag.Reads as network_from_flag
-use Rattle.names.proofs.flags.NetworkIndicator.flag.Reads as network_flag
-use Rattle.names.proofs.flags.ReturnMode.from_flag.Reads as return_mode_from_flag
-use Rattle.names.proofs.flags.ReturnMode.flag.Reads as return_mode_flag
-use Rattle.names.proofs.flags.DeviceRestrictions.from_bits.Reads as restrictions_from_bits
-use Rattle.names.proofs.flags.DeviceRestrictions.bits.Reads as restrictions_bits
+use Rattle.names.proofs.algorithm.EncryptionAlgorithmFromU8.from.Reads as algorithm_from
+use Rattle.names.proofs.algorithm.U8FromEncryptionAlgorithm.from.Reads as algorithm_into
+use Rattle.names.proofs.algorithm.EncryptionAlgorithmNumbered.class.Reads as algorithm_class
+use Rattle.names.proofs.algorithm.EncryptionAlgorithmNumbered.writable.Reads as algorithm_writable
+use Rattle.names.proofs.command.SpliceCommandTypeFromU8.from.Reads as command_type_from
+use Rattle.names.proofs.command.U8FromSpliceCommandType.from.Reads as command_type_into
+use Rattle.names.proofs.command.SpliceCommandTypeNumbered.class.Reads as command_type_class
+use Rattle.names.proofs.command.SpliceCommandTypeNumbered.writable.Reads as command_type_writable
+use Rattle.names.proofs.upid.SegmentationUpidTypeFromU8.from.Reads as upid_type_from
+use Rattle.names.proofs.upid.U8FromSegmentationUpidType.from.Reads as upid_type_into
+use Rattle.names.proofs.upid.SegmentationUpidTypeNumbered.class.Reads as upid_type_class
+use Rattle.names.proofs.upid.SegmentationUpidTypeNumbered.writable.Reads as upid_type_writable
+use Rattle.names.proofs.segmentation.SegmentationTypeIdFromU8.from.Reads as segmentation_type_from
+use Rattle.names.proofs.segmentation.U8FromSegmentationTypeId.from.Reads as segmentation_type_into
+use Rattle.names.proofs.segmentation.SegmentationTypeIdNumbered.class.Reads as segmentation_type_class
+use Rattle.names.proofs.segmentation.SegmentationTypeIdNumbered.writable.Reads as segmentation_type_writable
+use Rattle.names.proofs.flags.NetworkIndicatorTryFromU8.try_from.Reads as network_try_from
+use Rattle.names.proofs.flags.U8FromNetworkIndicator.from.Reads as network_into
+use Rattle.names.proofs.flags.ReturnModeTryFromU8.try_from.Reads as return_mode_try_from
+use Rattle.names.proofs.flags.U8FromReturnMode.from.Reads as return_mode_into
+use Rattle.names.proofs.flags.DeviceRestrictionsTryFromU8.try_from.Reads as restrictions_try_from
+use Rattle.names.proofs.flags.U8FromDeviceRestrictions.from.Reads as restrictions_into
 use Rattle.header_numbers.proofs.read_header_numbers.Reads as read_header_numbers
 use Rattle.header.proofs.header.read_header.Reads as read_header
 use Rattle.splice_time.proofs.read_aligned_time.Reads as read_aligned_time
@@ -110,7 +112,7 @@ use Rattle.command.proofs.components.read_components.Reads as read_components
 use Rattle.command.proofs.components.blanks.Reads as blank_components
 use Rattle.section.proofs.read_command_part.Reads as read_command_part
 use Rattle.section.proofs.Refusal.number.Reads as section_refusal_number
-use Rattle.command.proofs.CommandRead.number.Reads as command_read_number
+use Rattle.command.proofs.number.Reads as command_read_number
 use Rattle.section.proofs.read_frame.Reads as read_frame
 use Rattle.section.proofs.read_section.Reads as read_section
 use Rattle.section.proofs.loop_of.Reads as loop_of
@@ -126,23 +128,22 @@ pub answers_are_one : {K : Type 0} {A R E : K → Type 0} {asked : (κ : K) → 
 answers_are_one h κ a x y e f p q = h.is κ a x e p ∙ sym (h.is κ a y f q)
 
 -- ---- an answer is known by what it tells
-pub network_told : (x y : NetworkRead) → network_answer x ≡ network_answer y → x ≡ y
-network_told (NetworkRead.Is a) (NetworkRead.Is b) e = cc
-network_told (NetworkRead.Is a) NetworkRead.Refused e = zero_one cc
-network_told NetworkRead.Refused (NetworkRead.Is b) e = zero_one cc
-network_told NetworkRead.Refused NetworkRead.Refused e = refl
+pub flag_told : {A : Type 0} (x y : Result A UnknownNumber) → flag_answer x ≡ flag_answer y → x ≡ y
+flag_told (Ok a) (Ok b) e = cc
+flag_told (Ok a) (Err d) e = zero_one cc
+flag_told (Err d) (Ok b) e = zero_one cc
+flag_told (Err d) (Err f) e = refl
 
-pub return_told : (x y : ReturnRead) → return_answer x ≡ return_answer y → x ≡ y
-return_told (ReturnRead.Is a) (ReturnRead.Is b) e = cc
-return_told (ReturnRead.Is a) ReturnRead.Refused e = zero_one cc
-return_told ReturnRead.Refused (ReturnRead.Is b) e = zero_one cc
-return_told ReturnRead.Refused ReturnRead.Refused e = refl
-
-pub restrictions_told : (x y : RestrictionsRead) → restrictions_answer x ≡ restrictions_answer y → x ≡ y
-restrictions_told (RestrictionsRead.Is a) (RestrictionsRead.Is b) e = cc
-restrictions_told (RestrictionsRead.Is a) RestrictionsRead.Refused e = zero_one cc
-restrictions_told RestrictionsRead.Refused (RestrictionsRead.Is b) e = zero_one cc
-restrictions_told RestrictionsRead.Refused RestrictionsRead.Refused e = refl
+pub class_told : (x y : NumberClass) → class_number x ≡ class_number y → x ≡ y
+class_told NumberClass.Named NumberClass.Named e = refl
+class_told NumberClass.Named NumberClass.Reserved e = absurd (omega arith)
+class_told NumberClass.Named NumberClass.Private e = absurd (omega arith)
+class_told NumberClass.Reserved NumberClass.Named e = absurd (omega arith)
+class_told NumberClass.Reserved NumberClass.Reserved e = refl
+class_told NumberClass.Reserved NumberClass.Private e = absurd (omega arith)
+class_told NumberClass.Private NumberClass.Named e = absurd (omega arith)
+class_told NumberClass.Private NumberClass.Reserved e = absurd (omega arith)
+class_told NumberClass.Private NumberClass.Private e = refl
 
 -- ---- crc, crc_table
 
@@ -155,17 +156,8 @@ crc32_plain_answers = record { takes_any = λ κ a. tt; is = λ κ a r e l. l }
 pub reverse_answers : Answers reverse.Asked reverse.Learnt (λ κ r e. r) (λ κ a. reversed a.0)
 reverse_answers = record { takes_any = λ κ a. tt; is = λ κ a r e l. l }
 
-pub turned_56_answers : Answers turned_56.Asked turned_56.Learnt (λ κ r e. r) (λ κ a. reversed (turns 56 (a.0 % 256)))
-turned_56_answers = record { takes_any = λ κ a. tt; is = λ κ a r e l. l }
-
-pub turned_48_answers : Answers turned_48.Asked turned_48.Learnt (λ κ r e. r) (λ κ a. reversed (turns 48 (a.0 % 256)))
-turned_48_answers = record { takes_any = λ κ a. tt; is = λ κ a r e l. l }
-
-pub turned_40_answers : Answers turned_40.Asked turned_40.Learnt (λ κ r e. r) (λ κ a. reversed (turns 40 (a.0 % 256)))
-turned_40_answers = record { takes_any = λ κ a. tt; is = λ κ a r e l. l }
-
-pub turned_32_answers : Answers turned_32.Asked turned_32.Learnt (λ κ r e. r) (λ κ a. reversed (turns 32 (a.0 % 256)))
-turned_32_answers = record { takes_any = λ κ a. tt; is = λ κ a r e l. l }
+pub turned_answers : Answers turned.Asked turned.Learnt (λ κ r e. r) (λ κ a. reversed (turns (32 + 8 * (a.0 % 4)) (a.1.0 % 256)))
+turned_answers = record { takes_any = λ κ a. tt; is = λ κ a r e l. l }
 
 -- ---- table
 
@@ -222,59 +214,75 @@ put_bytes_leaves = record { takes_any = λ κ a. tt; is = λ κ a r e l. l }
 
 -- ---- names
 
-pub algorithm_from_id_answers : Answers algorithm_from_id.Asked algorithm_from_id.Learnt (λ κ r e. r) (λ κ a. algorithm_of a.0)
-algorithm_from_id_answers = record { takes_any = λ κ a. tt; is = λ κ a r e l. l }
+pub algorithm_from_answers : Answers algorithm_from.Asked algorithm_from.Learnt (λ κ r e. r) (λ κ a. algorithm_of a.0)
+algorithm_from_answers = record { takes_any = λ κ a. tt; is = λ κ a r e l. l }
 
-pub algorithm_id_answers : Answers algorithm_id.Asked algorithm_id.Learnt (λ κ r e. r) (λ κ a. algorithm_number a.0)
-algorithm_id_answers = record { takes_any = λ κ a. tt; is = λ κ a r e l. l }
+pub algorithm_into_answers : Answers algorithm_into.Asked algorithm_into.Learnt (λ κ r e. r) (λ κ a. algorithm_number a.0)
+algorithm_into_answers = record { takes_any = λ κ a. tt; is = λ κ a r e l. l }
+
+pub algorithm_class_answers : Answers algorithm_class.Asked algorithm_class.Learnt (λ κ r e. class_number r) (λ κ a. class_in algorithms a.0)
+algorithm_class_answers = record { takes_any = λ κ a. tt; is = λ κ a r e l. l }
 
 pub algorithm_writable_answers : Answers algorithm_writable.Asked algorithm_writable.Learnt (λ κ r e. r) (λ κ a. writable_algorithm a.0)
+unfolding writable_algorithm
 algorithm_writable_answers = record { takes_any = λ κ a. tt; is = λ κ a r e l. l }
 
-pub command_type_from_id_answers : Answers command_type_from_id.Asked command_type_from_id.Learnt (λ κ r e. r) (λ κ a. command_type_of a.0)
-command_type_from_id_answers = record { takes_any = λ κ a. tt; is = λ κ a r e l. l }
+pub command_type_from_answers : Answers command_type_from.Asked command_type_from.Learnt (λ κ r e. r) (λ κ a. command_type_of a.0)
+command_type_from_answers = record { takes_any = λ κ a. tt; is = λ κ a r e l. l }
 
-pub command_type_id_answers : Answers command_type_id.Asked command_type_id.Learnt (λ κ r e. r) (λ κ a. command_number a.0)
-command_type_id_answers = record { takes_any = λ κ a. tt; is = λ κ a r e l. l }
+pub command_type_into_answers : Answers command_type_into.Asked command_type_into.Learnt (λ κ r e. r) (λ κ a. command_number a.0)
+command_type_into_answers = record { takes_any = λ κ a. tt; is = λ κ a r e l. l }
+
+pub command_type_class_answers : Answers command_type_class.Asked command_type_class.Learnt (λ κ r e. class_number r) (λ κ a. class_in commands a.0)
+command_type_class_answers = record { takes_any = λ κ a. tt; is = λ κ a r e l. l }
 
 pub command_type_writable_answers : Answers command_type_writable.Asked command_type_writable.Learnt (λ κ r e. r) (λ κ a. writable_command a.0)
+unfolding writable_command
 command_type_writable_answers = record { takes_any = λ κ a. tt; is = λ κ a r e l. l }
 
-pub upid_type_from_type_answers : Answers upid_type_from_type.Asked upid_type_from_type.Learnt (λ κ r e. r) (λ κ a. upid_type_of a.0)
-upid_type_from_type_answers = record { takes_any = λ κ a. tt; is = λ κ a r e l. l }
+pub upid_type_from_answers : Answers upid_type_from.Asked upid_type_from.Learnt (λ κ r e. r) (λ κ a. upid_type_of a.0)
+upid_type_from_answers = record { takes_any = λ κ a. tt; is = λ κ a r e l. l }
 
-pub upid_type_id_answers : Answers upid_type_id.Asked upid_type_id.Learnt (λ κ r e. r) (λ κ a. upid_type_number a.0)
-upid_type_id_answers = record { takes_any = λ κ a. tt; is = λ κ a r e l. l }
+pub upid_type_into_answers : Answers upid_type_into.Asked upid_type_into.Learnt (λ κ r e. r) (λ κ a. upid_type_number a.0)
+upid_type_into_answers = record { takes_any = λ κ a. tt; is = λ κ a r e l. l }
+
+pub upid_type_class_answers : Answers upid_type_class.Asked upid_type_class.Learnt (λ κ r e. class_number r) (λ κ a. class_in upid_types a.0)
+upid_type_class_answers = record { takes_any = λ κ a. tt; is = λ κ a r e l. l }
 
 pub upid_type_writable_answers : Answers upid_type_writable.Asked upid_type_writable.Learnt (λ κ r e. r) (λ κ a. writable_upid_type a.0)
+unfolding writable_upid_type
 upid_type_writable_answers = record { takes_any = λ κ a. tt; is = λ κ a r e l. l }
 
-pub segmentation_type_from_id_answers : Answers segmentation_type_from_id.Asked segmentation_type_from_id.Learnt (λ κ r e. r) (λ κ a. segmentation_type_of a.0)
-segmentation_type_from_id_answers = record { takes_any = λ κ a. tt; is = λ κ a r e l. l }
+pub segmentation_type_from_answers : Answers segmentation_type_from.Asked segmentation_type_from.Learnt (λ κ r e. r) (λ κ a. segmentation_type_of a.0)
+segmentation_type_from_answers = record { takes_any = λ κ a. tt; is = λ κ a r e l. l }
 
-pub segmentation_type_id_answers : Answers segmentation_type_id.Asked segmentation_type_id.Learnt (λ κ r e. r) (λ κ a. segmentation_number a.0)
-segmentation_type_id_answers = record { takes_any = λ κ a. tt; is = λ κ a r e l. l }
+pub segmentation_type_into_answers : Answers segmentation_type_into.Asked segmentation_type_into.Learnt (λ κ r e. r) (λ κ a. segmentation_number a.0)
+segmentation_type_into_answers = record { takes_any = λ κ a. tt; is = λ κ a r e l. l }
+
+pub segmentation_type_class_answers : Answers segmentation_type_class.Asked segmentation_type_class.Learnt (λ κ r e. class_number r) (λ κ a. class_in segmentations a.0)
+segmentation_type_class_answers = record { takes_any = λ κ a. tt; is = λ κ a r e l. l }
 
 pub segmentation_type_writable_answers : Answers segmentation_type_writable.Asked segmentation_type_writable.Learnt (λ κ r e. r) (λ κ a. writable_segmentation a.0)
+unfolding writable_segmentation
 segmentation_type_writable_answers = record { takes_any = λ κ a. tt; is = λ κ a r e l. l }
 
-pub network_from_flag_answers : Answers network_from_flag.Asked network_from_flag.Learnt (λ κ r e. network_answer r) (λ κ a. network_of a.0)
-network_from_flag_answers = record { takes_any = λ κ a. tt; is = λ κ a r e l. l }
+pub network_try_from_answers : Answers network_try_from.Asked network_try_from.Learnt (λ κ r e. flag_answer r) (λ κ a. network_of a.0)
+network_try_from_answers = record { takes_any = λ κ a. tt; is = λ κ a r e l. l }
 
-pub network_flag_answers : Answers network_flag.Asked network_flag.Learnt (λ κ r e. r) (λ κ a. network_flag a.0)
-network_flag_answers = record { takes_any = λ κ a. tt; is = λ κ a r e l. l }
+pub network_into_answers : Answers network_into.Asked network_into.Learnt (λ κ r e. r) (λ κ a. network_flag a.0)
+network_into_answers = record { takes_any = λ κ a. tt; is = λ κ a r e l. l }
 
-pub return_mode_from_flag_answers : Answers return_mode_from_flag.Asked return_mode_from_flag.Learnt (λ κ r e. return_answer r) (λ κ a. return_of a.0)
-return_mode_from_flag_answers = record { takes_any = λ κ a. tt; is = λ κ a r e l. l }
+pub return_mode_try_from_answers : Answers return_mode_try_from.Asked return_mode_try_from.Learnt (λ κ r e. flag_answer r) (λ κ a. return_of a.0)
+return_mode_try_from_answers = record { takes_any = λ κ a. tt; is = λ κ a r e l. l }
 
-pub return_mode_flag_answers : Answers return_mode_flag.Asked return_mode_flag.Learnt (λ κ r e. r) (λ κ a. return_flag a.0)
-return_mode_flag_answers = record { takes_any = λ κ a. tt; is = λ κ a r e l. l }
+pub return_mode_into_answers : Answers return_mode_into.Asked return_mode_into.Learnt (λ κ r e. r) (λ κ a. return_flag a.0)
+return_mode_into_answers = record { takes_any = λ κ a. tt; is = λ κ a r e l. l }
 
-pub restrictions_from_bits_answers : Answers restrictions_from_bits.Asked restrictions_from_bits.Learnt (λ κ r e. restrictions_answer r) (λ κ a. restrictions_of a.0)
-restrictions_from_bits_answers = record { takes_any = λ κ a. tt; is = λ κ a r e l. l }
+pub restrictions_try_from_answers : Answers restrictions_try_from.Asked restrictions_try_from.Learnt (λ κ r e. flag_answer r) (λ κ a. restrictions_of a.0)
+restrictions_try_from_answers = record { takes_any = λ κ a. tt; is = λ κ a r e l. l }
 
-pub restrictions_bits_answers : Answers restrictions_bits.Asked restrictions_bits.Learnt (λ κ r e. r) (λ κ a. restrictions_bits a.0)
-restrictions_bits_answers = record { takes_any = λ κ a. tt; is = λ κ a r e l. l }
+pub restrictions_into_answers : Answers restrictions_into.Asked restrictions_into.Learnt (λ κ r e. r) (λ κ a. restrictions_bits a.0)
+restrictions_into_answers = record { takes_any = λ κ a. tt; is = λ κ a r e l. l }
 
 -- ---- header_numbers, header
 
@@ -383,7 +391,7 @@ blank_components_answers = record { takes_any = λ κ a. tt; is = λ κ a r e l.
 
 -- ---- section
 
-pub section_refusal_number_answers : Answers section_refusal_number.Asked section_refusal_number.Learnt (λ κ r e. r) (λ κ a. number_of (SectionRead.Refused a.0))
+pub section_refusal_number_answers : Answers section_refusal_number.Asked section_refusal_number.Learnt (λ κ r e. r) (λ κ a. number_of (Err a.0))
 section_refusal_number_answers = record { takes_any = λ κ a. tt; is = λ κ a r e l. l }
 
 pub read_frame_answers : Answers read_frame.Asked read_frame.Learnt (λ κ r e. r) (λ κ a. frame_of a.0.now)

@@ -1,5 +1,5 @@
 -- Every public function of the C boundary fixes its answer and its target's later bytes, and asks nothing of the caller, as FixedAnswers.antt has it of the readers.
-use lib.ListN.{drop}
+use lib.ListN.{drop, length}
 use mathlib.Core.List.{[], ◌∷◌}
 use Rattle.command.specs.Command.{command_of, components_of, count_in}
 use Rattle.crc.specs.Crc.{crc_of}
@@ -13,7 +13,7 @@ use Rattle.c_items.specs.FlatUpid.{flat_upid}
 use Rattle.c_section_writer.specs.SectionGiven.{section_words_made}
 use Rattle.c_command_writer.specs.CommandGiven.{command_given, command_refusal, command_words_made, components_from}
 use Rattle.c_command_writer.specs.Private.{lower}
-use Rattle.c_command_writer.specs.Words.{flat_written, same, within, word}
+use Rattle.c_command_writer.specs.Words.{each_place, flat_written, same, within, word}
 use Rattle.header.specs.Header.{header_of}
 use Rattle.splice_time.specs.Time.{adjusted_of}
 use Rattle.descriptor_loop.specs.Items.{reading_of, step_of}
@@ -25,7 +25,6 @@ use Rattle.names.specs.Upid.{upid_type_entry, upid_type_of}
 use Rattle.bit_stores.specs.Written.{answer_of, later_of}
 use Rattle.scte35.specs.FlatNumber.{flat_answer, flat_name, time_handed}
 use Rattle.section.specs.Section.{section_of}
-use Rattle.section.specs.declared.SectionRead.{SectionRead}
 use Rattle.canonical_form.specs.Section.{canonical_section}
 use Rattle.table.specs.Table.{flag_number}
 use Rattle.upid.specs.Upid.{upid_of}
@@ -46,6 +45,7 @@ use Rattle.c_command_writer.proofs.lower_refusal.Reads as lower_refusal
 use Rattle.c_command_writer.proofs.word_at.Reads as word_at
 use Rattle.c_command_writer.proofs.words_from.Reads as words_from
 use Rattle.c_command_writer.proofs.are_within.Reads as are_within
+use Rattle.c_command_writer.proofs.are_places_within.Reads as are_places_within
 use Rattle.c_command_writer.proofs.are_four_within.Reads as are_four_within
 use Rattle.c_command_writer.proofs.are_same.Reads as are_same
 use Rattle.c_command_writer.proofs.are_four_same.Reads as are_four_same
@@ -80,6 +80,7 @@ use Rattle.scte35.proofs.canonical.scte35_is_canonical_section.Reads as scte35_i
 use Rattle.scte35.proofs.canonical.scte35_is_canonical_loop.Reads as scte35_is_canonical_loop
 use Rattle.scte35.proofs.canonical.scte35_is_canonical_descriptor.Reads as scte35_is_canonical_descriptor
 use Rattle.theorems_fixed.specs.FixedAnswers.{Answers}
+use Rattle.std.proofs.Common.{Err}
 
 -- ---- c_section: the flat forms of headers, commands and sections
 
@@ -104,7 +105,7 @@ flat_adjusted_answers = record { takes_any = λ κ a. tt; is = λ κ a r e l. l 
 pub flat_insert_components_answers : Answers flat_insert_components.Asked flat_insert_components.Learnt (λ κ r e. r) (λ κ a. flat_insert_components a.0 a.1.0)
 flat_insert_components_answers = record { takes_any = λ κ a. tt; is = λ κ a r e l. l }
 
-pub no_section_answers : Answers no_section.Asked no_section.Learnt (λ κ r e. r) (λ κ a. flat_section_read (SectionRead.Refused a.0))
+pub no_section_answers : Answers no_section.Asked no_section.Learnt (λ κ r e. r) (λ κ a. flat_section_read (Err a.0))
 no_section_answers = record { takes_any = λ κ a. tt; is = λ κ a r e l. l }
 
 pub flat_parts_answers : Answers flat_parts.Asked flat_parts.Learnt (λ κ r e. r) (λ κ a. flat_parts a.0 a.1.0 a.1.1.0)
@@ -137,6 +138,9 @@ words_from_answers = record { takes_any = λ κ a. tt; is = λ κ a r e l. l }
 
 pub are_within_answers : Answers are_within.Asked are_within.Learnt (λ κ r e. r) (λ κ a. within a.0.now a.1.0.now)
 are_within_answers = record { takes_any = λ κ a. tt; is = λ κ a r e l. l }
+
+pub are_places_within_answers : Answers are_places_within.Asked are_places_within.Learnt (λ κ r e. r) (λ κ a. each_place (within a.0.now) (length a.0.now) a.1.0 a.1.1.0.now)
+are_places_within_answers = record { takes_any = λ κ a. tt; is = λ κ a r e l. l }
 
 pub are_four_within_answers : Answers are_four_within.Asked are_four_within.Learnt (λ κ r e. r) (λ κ a. within (a.0 ∷ a.1.0 ∷ a.1.1.0 ∷ a.1.1.1.0 ∷ []) a.1.1.1.1.0.now)
 are_four_within_answers = record { takes_any = λ κ a. tt; is = λ κ a r e l. l }

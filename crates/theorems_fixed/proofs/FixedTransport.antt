@@ -4,17 +4,18 @@ use mathlib.Core.Path.{ap}
 use Prim.Native.Nat.{◌%◌, ◌*◌, ◌+◌}
 use lib.ListN.{drop}
 use Rattle.c_packet.specs.PacketWords.{fed_number, kept_fed, kept_in, kept_taken, state_in, taken_number}
-use Rattle.transport.specs.Assembler.{FedTo, TakenTo, fed_of, fresh_assembler, taken_of}
-use Rattle.transport_packet.specs.Packet.{head_of}
+use Rattle.transport.specs.Assembler.{TakenTo, fed_answer, fed_of, fed_state, fresh_assembler, taken_of}
+use Rattle.transport_packet.specs.Packet.{head_of, number_of}
 use Rattle.transport_packet.specs.Sections.{cut, next_by, next_of}
+use Rattle.transport_packet.proofs.packet.Refusal.number.Reads as packet_refusal_number
 use Rattle.transport_packet.proofs.packet.read_head.Reads as read_head
 use Rattle.transport_packet.proofs.sections.next_by.Reads as next_by_lem
 use Rattle.transport_packet.proofs.sections.length_of.Reads as length_of_lem
 use Rattle.transport_packet.proofs.sections.next_at.Reads as next_at_lem
 use Rattle.transport_packet.proofs.sections.any_long.Reads as any_long
-use Rattle.transport.proofs.fresh.Reads as fresh
-use Rattle.transport.proofs.feed.Reads as feed
-use Rattle.transport.proofs.take.Reads as take_section
+use Rattle.transport.proofs.Assembler.new.Reads as assembler_new
+use Rattle.transport.proofs.Assembler.feed.Reads as feed
+use Rattle.transport.proofs.Assembler.take.Reads as take_section
 use Rattle.c_packet.proofs.start_words.Reads as start_words
 use Rattle.c_packet.proofs.feed_words.Reads as feed_words
 use Rattle.c_packet.proofs.take_words.Reads as take_words
@@ -24,6 +25,9 @@ use Rattle.scte35.proofs.packet.scte35_packet_take.Reads as scte35_packet_take
 use Rattle.theorems_fixed.specs.FixedAnswers.{Answers}
 
 -- ---- transport_packet: one packet
+
+pub packet_refusal_number_answers : Answers packet_refusal_number.Asked packet_refusal_number.Learnt (λ κ r e. r) (λ κ a. number_of a.0)
+packet_refusal_number_answers = record { takes_any = λ κ a. tt; is = λ κ a r e l. l }
 
 pub read_head_answers : Answers read_head.Asked read_head.Learnt (λ κ r e. r) (λ κ a. head_of a.0 a.1.0.now)
 read_head_answers = record { takes_any = λ κ a. tt; is = λ κ a r e l. l }
@@ -40,21 +44,27 @@ next_at_answers = record { takes_any = λ κ a. tt; is = λ κ a r e l. l }
 pub any_long_answers : Answers any_long.Asked any_long.Learnt (λ κ r e. r) (λ κ a. (cut (drop a.1.0 a.0.now)).long)
 any_long_answers = record { takes_any = λ κ a. tt; is = λ κ a r e l. l }
 
--- ---- transport: the assembler. Answer and buffer are one equation.
+-- ---- transport: the assembler, which is the first of what may change, the buffer the last. What `take` promises is one equation.
 
-pub fresh_answers : Answers fresh.Asked fresh.Learnt (λ κ r e. r) (λ κ a. fresh_assembler a.0)
-fresh_answers = record { takes_any = λ κ a. tt; is = λ κ a r e l. l }
+pub assembler_new_answers : Answers assembler_new.Asked assembler_new.Learnt (λ κ r e. r) (λ κ a. fresh_assembler a.0)
+assembler_new_answers = record { takes_any = λ κ a. tt; is = λ κ a r e l. l }
 
-pub feed_answers : Answers feed.Asked feed.Learnt (λ κ r e. r) (λ κ a. (fed_of a.0 a.1.0.now a.1.1.0.now).answer)
-feed_answers = record { takes_any = λ κ a. tt; is = λ κ a r e l. ap (λ (z : FedTo). z.answer) (l) }
+pub feed_answers : Answers feed.Asked feed.Learnt (λ κ r e. r) (λ κ a. fed_answer (fed_of a.0.now a.1.0.now a.1.1.0.now).answer)
+feed_answers = record { takes_any = λ κ a. tt; is = λ κ a r e l. l.0 }
 
-pub feed_leaves : Answers feed.Asked feed.Learnt (λ κ r e. e.1.1.0.now) (λ κ a. (fed_of a.0 a.1.0.now a.1.1.0.now).buffer)
-feed_leaves = record { takes_any = λ κ a. tt; is = λ κ a r e l. ap (λ (z : FedTo). z.buffer) (l) }
+pub feed_leaves_the_state : Answers feed.Asked feed.Learnt (λ κ r e. e.0.now) (λ κ a. fed_state a.0.now (fed_of a.0.now a.1.0.now a.1.1.0.now).answer)
+feed_leaves_the_state = record { takes_any = λ κ a. tt; is = λ κ a r e l. l.1.0 }
 
-pub take_section_answers : Answers take_section.Asked take_section.Learnt (λ κ r e. r) (λ κ a. (taken_of a.0 a.1.0.now a.1.1.0.now).answer)
-take_section_answers = record { takes_any = λ κ a. tt; is = λ κ a r e l. ap (λ (z : TakenTo). z.answer) (l) }
+pub feed_leaves : Answers feed.Asked feed.Learnt (λ κ r e. e.1.1.0.now) (λ κ a. (fed_of a.0.now a.1.0.now a.1.1.0.now).buffer)
+feed_leaves = record { takes_any = λ κ a. tt; is = λ κ a r e l. l.1.1 }
 
-pub take_section_leaves : Answers take_section.Asked take_section.Learnt (λ κ r e. e.1.1.0.now) (λ κ a. (taken_of a.0 a.1.0.now a.1.1.0.now).buffer)
+pub take_section_answers : Answers take_section.Asked take_section.Learnt (λ κ r e. r) (λ κ a. (taken_of a.0.now a.1.0.now a.1.1.0.now).answer.0)
+take_section_answers = record { takes_any = λ κ a. tt; is = λ κ a r e l. ap (λ (z : TakenTo). z.answer.0) (l) }
+
+pub take_section_leaves_the_state : Answers take_section.Asked take_section.Learnt (λ κ r e. e.0.now) (λ κ a. (taken_of a.0.now a.1.0.now a.1.1.0.now).answer.1)
+take_section_leaves_the_state = record { takes_any = λ κ a. tt; is = λ κ a r e l. ap (λ (z : TakenTo). z.answer.1) (l) }
+
+pub take_section_leaves : Answers take_section.Asked take_section.Learnt (λ κ r e. e.1.1.0.now) (λ κ a. (taken_of a.0.now a.1.0.now a.1.1.0.now).buffer)
 take_section_leaves = record { takes_any = λ κ a. tt; is = λ κ a r e l. ap (λ (z : TakenTo). z.buffer) (l) }
 
 -- ---- c_packet: the assembler over words. Its state is the first of what may change, the buffer the last.

@@ -9,17 +9,14 @@ use Rattle.command_measure.specs.Made.{command_made}
 use Rattle.descriptor_writer.specs.Stores.{Writes}
 use Rattle.descriptor_loop.specs.Items.{step_of, reading_of}
 use Rattle.descriptor_loop.specs.Place.{view_of}
-use Rattle.descriptor_loop.specs.declared.Item.{Item}
 use Rattle.descriptor_loop.specs.declared.Step.{Step}
 use Rattle.descriptor_loop.specs.declared.reading.Reading.{Reading}
 use Rattle.canonical_form.specs.Same.{Given}
 use Rattle.loop_round_trips.specs.Loops.{given_made}
 use Rattle.bit_stores.specs.Written.{answer_of, later_of}
-use Rattle.bit_stores.specs.declared.Written.{Written}
 use Rattle.section.specs.Section.{section_of, private_view}
 use Rattle.section.specs.Full.{full_section_of}
 use Rattle.section.specs.declared.Section.{Section}
-use Rattle.section.specs.declared.SectionRead.{SectionRead}
 use Rattle.section.specs.declared.full.FullSection.{FullSection}
 use Rattle.canonical_form.specs.Section.{canonical_section}
 use Rattle.section_writer.specs.Writing.{type_of, section_made}
@@ -43,14 +40,18 @@ use Rattle.section_writer.proofs.write_section.Reads as write_section
 use Rattle.upid.proofs.part_bytes.Reads as part_bytes
 use Rattle.upid.proofs.read_upid.Reads as read_upid
 use Rattle.theorems_functions.specs.Calls.{SectionGiven}
+use Rattle.std.proofs.Common.{Option, Result}
+use Rattle.descriptor.specs.declared.Descriptor.{Descriptor}
+use Rattle.descriptor_loop.specs.declared.ItemRefusal.{ItemRefusal}
+use Rattle.section.specs.declared.Refusal.{Refusal}
 
 -- ---- the readers
 
 -- `read_section` of the bytes s may answer r
-abbrev pub ReadsSection : List ℕ → SectionRead → Type 0
-ReadsSection s r = May read_section.Learnt {S = List ℕ} {T = SectionRead} (λ κ a. a.0.now) (λ κ r e. r) s r
+abbrev pub ReadsSection : List ℕ → Result Section Refusal → Type 0
+ReadsSection s r = May read_section.Learnt {S = List ℕ} {T = Result Section Refusal} (λ κ a. a.0.now) (λ κ r e. r) s r
 
-pub reads_section_so : {s : List ℕ} {r : SectionRead} → ReadsSection s r → r ≡ section_of s
+pub reads_section_so : {s : List ℕ} {r : Result Section Refusal} → ReadsSection s r → r ≡ section_of s
 reads_section_so d = sym d.left ∙ d.learnt_so ∙ ap section_of d.taken
 
 abbrev pub ReadsFullSection : List ℕ → FullSection → Type 0
@@ -92,11 +93,11 @@ GivesPrivate s c b = May private_bytes_of.Learnt {S = List ℕ × SpliceCommand}
 pub gives_private_so : {s : List ℕ} {c : SpliceCommand} {b : List ℕ} → GivesPrivate s c b → b ≡ viewed s (private_view c)
 gives_private_so d = sym d.left ∙ d.learnt_so ∙ ap (λ (v : List ℕ × SpliceCommand). viewed v.0 (private_view v.1)) d.taken
 
-abbrev pub GivesBytes : List ℕ → Item → List ℕ → Type 0
-GivesBytes loop item b = May bytes_of.Learnt {S = List ℕ × Item} {T = List ℕ} (λ κ a. (a.0.now, a.1.0)) (λ κ r e. r.now) (loop, item) b
+abbrev pub GivesBytes : List ℕ → Option (Result Descriptor ItemRefusal) → List ℕ → Type 0
+GivesBytes loop item b = May bytes_of.Learnt {S = List ℕ × Option (Result Descriptor ItemRefusal)} {T = List ℕ} (λ κ a. (a.0.now, a.1.0)) (λ κ r e. r.now) (loop, item) b
 
-pub gives_bytes_so : {loop : List ℕ} {item : Item} {b : List ℕ} → GivesBytes loop item b → b ≡ viewed loop (view_of item)
-gives_bytes_so d = sym d.left ∙ d.learnt_so ∙ ap (λ (v : List ℕ × Item). viewed v.0 (view_of v.1)) d.taken
+pub gives_bytes_so : {loop : List ℕ} {item : Option (Result Descriptor ItemRefusal)} {b : List ℕ} → GivesBytes loop item b → b ≡ viewed loop (view_of item)
+gives_bytes_so d = sym d.left ∙ d.learnt_so ∙ ap (λ (v : List ℕ × Option (Result Descriptor ItemRefusal)). viewed v.0 (view_of v.1)) d.taken
 
 abbrev pub GivesPart : List ℕ → Part → List ℕ → Type 0
 GivesPart top p b = May part_bytes.Learnt {S = List ℕ × Part} {T = List ℕ} (λ κ a. (a.0.now, a.1.0)) (λ κ r e. r.now) (top, p) b
@@ -117,41 +118,41 @@ tells_canonical_so d = sym d.left ∙ d.learnt_so ∙ ap canonical_section d.tak
 abbrev pub section_from : SectionGiven → Made
 section_from g = section_made g.header (command_made g.command g.components g.lent) (type_of g.command) g.loop
 
-abbrev pub WritesSection : SectionGiven → List ℕ → Written → List ℕ → Type 0
+abbrev pub WritesSection : SectionGiven → List ℕ → Result ℕ ℕ → List ℕ → Type 0
 WritesSection g target answer later =
-    May write_section.Learnt {S = SectionGiven × List ℕ} {T = Written × List ℕ}
+    May write_section.Learnt {S = SectionGiven × List ℕ} {T = Result ℕ ℕ × List ℕ}
     (λ κ a. (record { header = a.0; command = a.1.0; components = a.1.1.0; lent = a.1.1.1.0.now; loop = a.1.1.1.1.0.now }, a.1.1.1.1.1.0.now))
     (λ κ r e. (r, e.1.1.1.1.1.0.now)) (g, target) (answer, later)
 
-pub writes_section_so : {g : SectionGiven} {target : List ℕ} {answer : Written} {later : List ℕ} → WritesSection g target answer later → Writes (section_from g) target later answer
+pub writes_section_so : {g : SectionGiven} {target : List ℕ} {answer : Result ℕ ℕ} {later : List ℕ} → WritesSection g target answer later → Writes (section_from g) target later answer
 writes_section_so d = record {
-  answer = sym (ap (λ (v : Written × List ℕ). v.0) d.left) ∙ d.learnt_so.0 ∙ ap (λ (v : SectionGiven × List ℕ). answer_of (section_from v.0) v.1) d.taken;
-  target_later = sym (ap (λ (v : Written × List ℕ). v.1) d.left) ∙ d.learnt_so.1 ∙ ap (λ (v : SectionGiven × List ℕ). later_of (section_from v.0) v.1) d.taken;
+  answer = sym (ap (λ (v : Result ℕ ℕ × List ℕ). v.0) d.left) ∙ d.learnt_so.0 ∙ ap (λ (v : SectionGiven × List ℕ). answer_of (section_from v.0) v.1) d.taken;
+  target_later = sym (ap (λ (v : Result ℕ ℕ × List ℕ). v.1) d.left) ∙ d.learnt_so.1 ∙ ap (λ (v : SectionGiven × List ℕ). later_of (section_from v.0) v.1) d.taken;
 }
 
-abbrev pub WritesDescriptor : Given → List ℕ → Written → List ℕ → Type 0
+abbrev pub WritesDescriptor : Given → List ℕ → Result ℕ ℕ → List ℕ → Type 0
 WritesDescriptor g target answer later =
-    May write_descriptor.Learnt {S = Given × List ℕ} {T = Written × List ℕ}
+    May write_descriptor.Learnt {S = Given × List ℕ} {T = Result ℕ ℕ × List ℕ}
     (λ κ a. (record { descriptor = a.0; identifier = a.1.0; beside = a.1.1.0; lent = a.1.1.1.0.now }, a.1.1.1.1.0.now))
     (λ κ r e. (r, e.1.1.1.1.0.now)) (g, target) (answer, later)
 
-pub writes_descriptor_so : {g : Given} {target : List ℕ} {answer : Written} {later : List ℕ} → WritesDescriptor g target answer later → Writes (given_made g) target later answer
+pub writes_descriptor_so : {g : Given} {target : List ℕ} {answer : Result ℕ ℕ} {later : List ℕ} → WritesDescriptor g target answer later → Writes (given_made g) target later answer
 writes_descriptor_so d = record {
-  answer = sym (ap (λ (v : Written × List ℕ). v.0) d.left) ∙ d.learnt_so.answer ∙ ap (λ (v : Given × List ℕ). answer_of (given_made v.0) v.1) d.taken;
-  target_later = sym (ap (λ (v : Written × List ℕ). v.1) d.left) ∙ d.learnt_so.target_later ∙ ap (λ (v : Given × List ℕ). later_of (given_made v.0) v.1) d.taken;
+  answer = sym (ap (λ (v : Result ℕ ℕ × List ℕ). v.0) d.left) ∙ d.learnt_so.answer ∙ ap (λ (v : Given × List ℕ). answer_of (given_made v.0) v.1) d.taken;
+  target_later = sym (ap (λ (v : Result ℕ ℕ × List ℕ). v.1) d.left) ∙ d.learnt_so.target_later ∙ ap (λ (v : Given × List ℕ). later_of (given_made v.0) v.1) d.taken;
 }
 
 -- a command, its components and the bytes that its view refers to
-abbrev pub WritesCommand : SpliceCommand → List InsertComponent → List ℕ → List ℕ → Written → List ℕ → Type 0
+abbrev pub WritesCommand : SpliceCommand → List InsertComponent → List ℕ → List ℕ → Result ℕ ℕ → List ℕ → Type 0
 WritesCommand c places lent target answer later =
-    May write_command.Learnt {S = SpliceCommand × (List InsertComponent × (List ℕ × List ℕ))} {T = Written × List ℕ}
+    May write_command.Learnt {S = SpliceCommand × (List InsertComponent × (List ℕ × List ℕ))} {T = Result ℕ ℕ × List ℕ}
     (λ κ a. (a.0, (a.1.0, (a.1.1.0.now, a.1.1.1.0.now)))) (λ κ r e. (r, e.1.1.1.0.now)) (c, (places, (lent, target))) (answer, later)
 
-pub writes_command_so : {c : SpliceCommand} {places : List InsertComponent} {lent target : List ℕ} {answer : Written} {later : List ℕ} → WritesCommand c places lent target answer later
+pub writes_command_so : {c : SpliceCommand} {places : List InsertComponent} {lent target : List ℕ} {answer : Result ℕ ℕ} {later : List ℕ} → WritesCommand c places lent target answer later
     → Writes (command_made c places lent) target later answer
 writes_command_so d = record {
-  answer = sym (ap (λ (v : Written × List ℕ). v.0) d.left) ∙ d.learnt_so.0
+  answer = sym (ap (λ (v : Result ℕ ℕ × List ℕ). v.0) d.left) ∙ d.learnt_so.0
       ∙ ap (λ (v : SpliceCommand × (List InsertComponent × (List ℕ × List ℕ))). answer_of (command_made v.0 v.1.0 v.1.1.0) v.1.1.1) d.taken;
-  target_later = sym (ap (λ (v : Written × List ℕ). v.1) d.left) ∙ d.learnt_so.1
+  target_later = sym (ap (λ (v : Result ℕ ℕ × List ℕ). v.1) d.left) ∙ d.learnt_so.1
       ∙ ap (λ (v : SpliceCommand × (List InsertComponent × (List ℕ × List ℕ))). later_of (command_made v.0 v.1.0 v.1.1.0) v.1.1.1) d.taken;
 }

@@ -33,11 +33,9 @@ use Rattle.descriptor_loop.specs.Cover.{run_of, Covered}
 use Rattle.canonical_form.specs.Same.{Pairs}
 use Rattle.canonical_form.specs.Same.Pairs.{over, pair}
 use Rattle.bit_stores.specs.Written.{answer_of, later_of}
-use Rattle.bit_stores.specs.declared.Written.{Written}
 use Rattle.section.proofs.Acceptance.{is_read}
 use Rattle.section.specs.Section.{command_length, command_type, command_bytes, loop_bytes, moved, conditions, first, loop_place, section_of, number_of, loop_in}
 use Rattle.section.specs.declared.Section.{Section}
-use Rattle.section.specs.declared.SectionRead.{SectionRead}
 use Rattle.canonical_form.specs.Section.{canonical_section}
 use Rattle.table.specs.Bits.{AllBytes}
 use Rattle.table.specs.Lent.{viewed, filled_to}
@@ -59,7 +57,6 @@ use Rattle.upid.specs.Cover.{All}
 use Rattle.upid.specs.Cover.All.{none, more}
 use Rattle.upid.specs.Upid.{check_of, upid_of, part_view}
 use Rattle.upid.specs.declared.Part.{Part}
-use Rattle.upid.specs.declared.UpidRead.{UpidRead}
 use Rattle.scte35.proofs.canonical.scte35_is_canonical_section.Reads as scte35_is_canonical_section
 use Rattle.scte35.proofs.scte35_read_insert_components.Reads as scte35_read_insert_components
 use Rattle.scte35.proofs.scte35_read_item.Reads as scte35_read_item
@@ -77,6 +74,8 @@ use Rattle.theorems_functions.proofs.Steps as steps
 use Rattle.theorems_functions.proofs.Slices.{reported_as_lem}
 use Rattle.theorems_functions.proofs.Writes as writes
 use Rattle.theorems_functions.proofs.WrittenOverC as written_over_c
+use Rattle.std.proofs.Common.{Ok, Err, Result}
+use Rattle.section.specs.declared.Refusal.{Refusal}
 
 -- ---- what the contracts allow
 
@@ -150,10 +149,10 @@ writes_descriptor_so d = (
 
 -- ---- acceptance
 
-pub flat_number : (r : SectionRead) → (flat_section_read r).refusal ≡ number_of r
+pub flat_number : (r : Result Section Refusal) → (flat_section_read r).refusal ≡ number_of r
 unfolding flat_section_read number_of
-flat_number (SectionRead.Is x) = refl
-flat_number (SectionRead.Refused r) = refl
+flat_number (Ok x) = refl
+flat_number (Err r) = refl
 
 -- the number is that of the first condition of 1 to 11 that holds, and 0 exactly where none does
 pub scte35_read_section_refuses_in_order : (s : List ℕ) (f : FlatSection) → ReadsSectionC s f → f.refusal ≡ first 1 (conditions s)
@@ -164,7 +163,7 @@ scte35_read_section_refuses_in_order s f d = ap (λ (v : FlatSection). v.refusal
 -- what is read, where there is no refusal
 pub record Accepted (s : List ℕ) (f : FlatSection) : Type 0 where
   pub section : Section
-  pub is : section_of s ≡ SectionRead.Is section
+  pub is : section_of s ≡ Ok section
   pub base : f.descriptors.at ≡ section.descriptors.at
   pub long : f.descriptors.len ≡ section.descriptors.len
   pub loop : taken s f.descriptors ≡ loop_in s section
@@ -277,7 +276,7 @@ pub the_type_and_the_eidr_over_c_are_those_of_the_upid : (upid_type_number : ℕ
 the_type_and_the_eidr_over_c_are_those_of_the_upid upid_type_number bytes u d = rw (reads_upid_so d) (flat.upid_says_lem upid_type_number bytes)
 
 -- a MID that is accepted has bytes
-some_byte : (b : List ℕ) → check_of 13 b ≡ UpidRead.Fine 13 → 1 ≤ length b
+some_byte : (b : List ℕ) → check_of 13 b ≡ Ok 13 → 1 ≤ length b
 unfolding check_of
 some_byte [] e = let z : ◌≡◌ {A = ℕ} 0 13 = cc in absurd (eqb-false 0 13 refl z)
 some_byte (x ∷ b) e = omega arith
@@ -320,7 +319,7 @@ the_parts_of_a_mid_over_c_are_whole s f offset i u a d z q four mid r = mid_lies
 -- ---- writing
 
 -- the loop that a reading says is the section's
-pub laid_loop : (s : List ℕ) (x : Section) → section_of s ≡ SectionRead.Is x → loop_in s x ≡ loop_bytes s
+pub laid_loop : (s : List ℕ) (x : Section) → section_of s ≡ Ok x → loop_in s x ≡ loop_bytes s
 laid_loop s x e = ap (viewed s) (reading.what_an_accepted_section_says s x e).2
 
 pub puts_flat : (m : Made) (b target : List ℕ) (answer : FlatWritten) (later : List ℕ) → m ≡ made b → answer ≡ flat_written (answer_of m target) → later ≡ later_of m target → PutsFlat b target answer later
@@ -331,7 +330,7 @@ puts_flat m b target answer later e f g =
     let l : later ≡ later_of (made b) target = g ∙ ap (λ (n : Made). later_of n target) e in
     record {
       fits = λ h.
-          let w : answer ≡ flat_written (Written.Wrote (length b)) = a ∙ ap flat_written (p.fits h).0 in
+          let w : answer ≡ flat_written (Ok (length b)) = a ∙ ap flat_written (p.fits h).0 in
           (ap (λ (v : FlatWritten). v.refusal) w, ap (λ (v : FlatWritten). v.«length») w, l ∙ (p.fits h).1);
       short = λ h. (ap (λ (v : FlatWritten). v.refusal) (a ∙ ap flat_written (p.short h).0), l ∙ (p.short h).1);
     }
@@ -385,7 +384,7 @@ what_is_written_over_c_has_its_words header command components lent loop target 
     let b : List ℕ = take answer.«length» later in
     let w = what_is_written_over_c_is_read_back header command components lent loop target answer later a l p z in
     let x : Section = w.section.header.reading in
-    let e : f ≡ flat_section_read (SectionRead.Is x) = reads_section_so d ∙ ap flat_section_read w.section.header.reads in
+    let e : f ≡ flat_section_read (Ok x) = reads_section_so d ∙ ap flat_section_read w.section.header.reads in
     let k : header_words f.header ≡ header_words (flat_header w.own_header) =
     ap (λ (v : FlatSection). header_words v.header) e ∙ written_over_c.same_words x.header w.own_header w.section.header.same in
     let g : SpliceCommand = w.section.command.again in
@@ -407,9 +406,9 @@ pub left : (m : Made) (target : List ℕ) (n : ℕ) → (flat_written (answer_of
 unfolding flat_written
 left m target n e some = go (answer_of m target) refl e
   where
-    go : (w : Written) → answer_of m target ≡ w → (flat_written w).refusal ≡ n → later_of m target ≡ target
-    go (Written.Wrote k) h e = absurd (some (sym e))
-    go (Written.Refused k) h e = writing.a_refused_write_changes_no_byte m target k h
+    go : (w : Result ℕ ℕ) → answer_of m target ≡ w → (flat_written w).refusal ≡ n → later_of m target ≡ target
+    go (Ok k) h e = absurd (some (sym e))
+    go (Err k) h e = writing.a_refused_write_changes_no_byte m target k h
 
 pub a_refused_section_over_c_changes_no_byte : (κ : _) (a : _) (r : FlatWritten) (e : _) → scte35_write_section_words.Learnt κ a r e → (r.refusal ≡ 0 → ⊥) → e.1.1.1.1.1.0.now ≡ a.1.1.1.1.1.0.now
 a_refused_section_over_c_changes_no_byte κ a r e l some = l.1 ∙ left _ _ r.refusal (ap (λ (v : FlatWritten). v.refusal) (sym l.0)) some

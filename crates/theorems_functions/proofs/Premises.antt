@@ -8,7 +8,6 @@ use lib.ListN.{length}
 use denote.Ref.{Bor}
 use denote.MutBor.{MutBor}
 use Rattle.bit_stores.specs.Written.{answer_of, later_of}
-use Rattle.bit_stores.specs.declared.Written.{Written}
 use Rattle.c_command_writer.specs.Words.{flat_written}
 use Rattle.c_descriptor_writer.specs.ItemGiven.{descriptor_words_made}
 use Rattle.c_items.specs.FlatItem.{flat_step, flat_beside}
@@ -28,14 +27,12 @@ use Rattle.descriptor_loop.proofs.Steps.{step_end}
 use Rattle.descriptor_loop.specs.Cover.{run_of}
 use Rattle.descriptor_loop.specs.Items.{step_of, reading_of, Listed, items_of}
 use Rattle.descriptor_loop.specs.Place.{view_of}
-use Rattle.descriptor_loop.specs.declared.Item.{Item}
 use Rattle.descriptor_loop.specs.declared.Step.{Step}
 use Rattle.descriptor_loop.specs.declared.reading.Reading.{Reading}
 use Rattle.loop_round_trips.specs.Loops.{given_made}
 use Rattle.section.specs.Section.{private_view, section_of, loop_in}
 use Rattle.section.specs.Full.{full_section_of}
 use Rattle.section.specs.declared.Section.{Section}
-use Rattle.section.specs.declared.SectionRead.{SectionRead}
 use Rattle.table.specs.Bits.{AllBytes}
 use Rattle.table.specs.Lent.{viewed}
 use Rattle.table.specs.Writing.{Made, made}
@@ -52,6 +49,9 @@ use Rattle.theorems_functions.proofs.OverC.{ReadsSectionC, ReadsItemC, ReadsBesi
 use Rattle.theorems_functions.proofs.Steps as steps
 use Rattle.theorems_functions.proofs.Theorems.{Rewrites, WritesBytes}
 use Rattle.theorems_functions.proofs.Writes as writes
+use Rattle.std.proofs.Common.{Ok, Some, Option, Result}
+use Rattle.descriptor.specs.declared.Descriptor.{Descriptor}
+use Rattle.descriptor_loop.specs.declared.ItemRefusal.{ItemRefusal}
 
 -- lent bytes, wherever they lie
 abbrev pub slice : List ℕ → Bor (List ℕ)
@@ -84,7 +84,7 @@ loop_of_is_met s x = record { κ = ([], tt); arguments = (slice s, (x, tt)); ans
 pub private_bytes_of_is_met : (s : List ℕ) (c : SpliceCommand) → GivesPrivate s c (viewed s (private_view c))
 private_bytes_of_is_met s c = record { κ = ([], tt); arguments = (slice s, (c, tt)); answer = slice (viewed s (private_view c)); after = (slice s, (c, tt)); taken = refl; left = refl; learnt_so = refl }
 
-pub bytes_of_is_met : (loop : List ℕ) (i : Item) → GivesBytes loop i (viewed loop (view_of i))
+pub bytes_of_is_met : (loop : List ℕ) (i : Option (Result Descriptor ItemRefusal)) → GivesBytes loop i (viewed loop (view_of i))
 bytes_of_is_met loop i = record { κ = ([], tt); arguments = (slice loop, (i, tt)); answer = slice (viewed loop (view_of i)); after = (slice loop, (i, tt)); taken = refl; left = refl; learnt_so = refl }
 
 pub part_bytes_is_met : (b : List ℕ) (p : Part) → GivesPart b p (viewed b (part_view p))
@@ -207,13 +207,13 @@ every_loop_is_stepped_through_over_c loop fits = stepped_from_over_c loop (walke
 written_so : (g : Given) (b : List ℕ) → Puts b b (answer_of (given_made g) b) (later_of (given_made g) b) → WritesBytes g b
 written_so g b p =
     let later : List ℕ = later_of (given_made g) b in
-    let a : answer_of (given_made g) b ≡ Written.Wrote (length b) = (p.fits (omega arith)).0 in
+    let a : answer_of (given_made g) b ≡ Ok (length b) = (p.fits (omega arith)).0 in
     record {
       target = b;
       number = length b;
       later = later;
-      writes = subst (λ (v : Written). WritesDescriptor g b v later) a (write_descriptor_is_met g b);
-      bytes = sym (writes.put_start b b (length b) later (subst (λ (v : Written). Puts b b v later) a p));
+      writes = subst (λ (v : Result ℕ ℕ). WritesDescriptor g b v later) a (write_descriptor_is_met g b);
+      bytes = sym (writes.put_start b b (length b) later (subst (λ (v : Result ℕ ℕ). Puts b b v later) a p));
     }
 
 pub what_is_made_of_a_descriptor_is_written : (g : Given) (b : List ℕ) → given_made g ≡ made b → WritesBytes g b
@@ -223,7 +223,7 @@ what_is_made_of_a_descriptor_is_written g b e = written_so g b (writes.puts_made
 item_rewritten : (loop : List ℕ) (y : Listed) → writes.Again loop y → Rewrites loop y (run_of loop y)
 item_rewritten loop y h =
     let r : Reading = reading_of loop y.offset in
-    let is : r.step.item ≡ Item.Is h.written.descriptor = ap (λ (t : Step). t.item) (sym h.here) ∙ h.written.is in
+    let is : r.step.item ≡ Some (Ok h.written.descriptor) = ap (λ (t : Step). t.item) (sym h.here) ∙ h.written.is in
     let g : Given = record { descriptor = h.written.descriptor; identifier = r.step.identifier; beside = r.beside; lent = loop } in
     let w : WritesBytes g (run_of loop y) = written_so g (run_of loop y) (writes.item_back loop y h r h.written.descriptor refl is (run_of loop y) _ _ (record { answer = refl; target_later = refl })) in
     record {
@@ -242,7 +242,7 @@ all_rewritten : (loop : List ℕ) {xs : List Listed} → All (writes.Again loop)
 all_rewritten loop none = over
 all_rewritten loop (more {x = y} h hs) = pair (item_rewritten loop y h) (all_rewritten loop hs)
 
-pub the_items_of_every_canonical_section_are_rewritten : (s : List ℕ) (x : Section) → AllBytes s → section_of s ≡ SectionRead.Is x → canonical_section s ≡ true
+pub the_items_of_every_canonical_section_are_rewritten : (s : List ℕ) (x : Section) → AllBytes s → section_of s ≡ Ok x → canonical_section s ≡ true
     → Pairs (Rewrites (loop_in s x)) (items_of (loop_in s x)) (map (run_of (loop_in s x)) (items_of (loop_in s x)))
 the_items_of_every_canonical_section_are_rewritten s x a e c =
     all_rewritten (loop_in s x) (writes.all_again (loop_in s x) (loop_short s x e) (writing.a_canonical_section_is_what_is_written_of_its_items s x a e c).0)

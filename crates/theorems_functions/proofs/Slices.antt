@@ -16,7 +16,6 @@ use Rattle.descriptor.specs.declared.segmentation.SegmentationDetail.{Segmentati
 use Rattle.descriptor.specs.declared.segmentation.SegmentationUpid.{SegmentationUpid}
 use Rattle.descriptor_loop.proofs.Places.{upid_view, all_into}
 use Rattle.descriptor_loop.specs.Place.{view_of, first_view}
-use Rattle.descriptor_loop.specs.declared.Item.{Item}
 use Rattle.descriptor_loop.specs.declared.ItemRefusal.{ItemRefusal}
 use Rattle.descriptor_loop.specs.declared.reading.Reading.{Reading}
 use Rattle.section.specs.Section.{private_view, command_length}
@@ -30,6 +29,7 @@ use Rattle.upid.specs.Upid.{reported_of, part_view}
 use Rattle.upid.specs.declared.Part.{Part}
 use Rattle.upid.specs.declared.Refusal.{Refusal}
 use Rattle.theorems_functions.specs.Slices.{Slice, reported_as, UpidSlice, DetailSlice, ItemSlice, PartSlice, Parted, PrivateSlice}
+use Rattle.std.proofs.Common.{Ok, Err, Some, None, Option, Result}
 
 -- an identifier that is exactly a run is handed back as it
 pub slice_of : (s : List ℕ) (at n : ℕ) (i : Identifier) → Exactly s at n i → Slice s at n i.bytes
@@ -59,25 +59,25 @@ module _ (s : List ℕ) (base : ℕ) (loop : List ℕ) where
   }
 
   module _ (offset : ℕ) (r : Reading) where
-    item_slice : (it : Item) → ItemCase s base loop offset r it → ItemSlice s (base + offset) r (viewed loop (view_of it)) it
-    item_slice Item.End w = nothing_viewed loop
-    item_slice (Item.Refused ItemRefusal.InvalidDescriptorLength) w = nothing_viewed loop
-    item_slice (Item.Refused (ItemRefusal.Other Refusal.InputTooLong)) w = nothing_viewed loop
-    item_slice (Item.Refused (ItemRefusal.Other (Refusal.NotEnoughData expected actual))) w = nothing_viewed loop
-    item_slice (Item.Refused (ItemRefusal.Other Refusal.UpidLengthTypeMismatch)) w = nothing_viewed loop
-    item_slice (Item.Refused (ItemRefusal.Other (Refusal.InvalidUpidContent upid_type_number v))) w =
+    item_slice : (it : Option (Result Descriptor ItemRefusal)) → ItemCase s base loop offset r it → ItemSlice s (base + offset) r (viewed loop (view_of it)) it
+    item_slice None w = nothing_viewed loop
+    item_slice (Some (Err ItemRefusal.InvalidDescriptorLength)) w = nothing_viewed loop
+    item_slice (Some (Err (ItemRefusal.Other Refusal.InputTooLong))) w = nothing_viewed loop
+    item_slice (Some (Err (ItemRefusal.Other (Refusal.NotEnoughData expected actual)))) w = nothing_viewed loop
+    item_slice (Some (Err (ItemRefusal.Other Refusal.UpidLengthTypeMismatch))) w = nothing_viewed loop
+    item_slice (Some (Err (ItemRefusal.Other (Refusal.InvalidUpidContent upid_type_number v)))) w =
         record { start = base + v.at; behind = w.behind; upid_type = w.upid_type; whole = slice_of s (base + v.at) (get_or s (base + v.at - 1) 0) (in_lent base loop v) w.whole }
-    item_slice (Item.Refused (ItemRefusal.Other (Refusal.InvalidUpidLength upid_type_number expected actual))) w = nothing_viewed loop
-    item_slice (Item.Is (Descriptor.Avail x)) w = nothing_viewed loop
-    item_slice (Item.Is (Descriptor.Dtmf x)) w = slice_of s _ _ (in_lent base loop x.dtmf_chars) w
-    item_slice (Item.Is (Descriptor.Segmentation x)) w = detail x.descriptor_detail w
+    item_slice (Some (Err (ItemRefusal.Other (Refusal.InvalidUpidLength upid_type_number expected actual)))) w = nothing_viewed loop
+    item_slice (Some (Ok (Descriptor.Avail x))) w = nothing_viewed loop
+    item_slice (Some (Ok (Descriptor.Dtmf x))) w = slice_of s _ _ (in_lent base loop x.dtmf_chars) w
+    item_slice (Some (Ok (Descriptor.Segmentation x))) w = detail x.descriptor_detail w
       where
         detail : (d : DescriptorDetail) → DetailCase s (base + offset + 6) base loop r.beside.eidr d
             → DetailSlice s (base + offset + 6) r.beside.eidr (viewed loop (first_view (detail_views d))) d
         detail DescriptorDetail.Cancel w = w
         detail (DescriptorDetail.Active i) w = upid_slice _ _ i.segmentation_upid w
-    item_slice (Item.Is (Descriptor.Time x)) w = nothing_viewed loop
-    item_slice (Item.Is (Descriptor.Reserved tag v)) w = (slice_of s _ _ (in_lent base loop v) w.0, w.1)
+    item_slice (Some (Ok (Descriptor.Time x))) w = nothing_viewed loop
+    item_slice (Some (Ok (Descriptor.Reserved tag v))) w = (slice_of s _ _ (in_lent base loop v) w.0, w.1)
 
 -- what is read, and the slice that is handed back of it
 pub read_slice : (s : List ℕ) (base : ℕ) (loop : List ℕ) (offset : ℕ) (r : Reading) (b : List ℕ) → ItemCase s base loop offset r r.step.item
@@ -101,7 +101,7 @@ mid_parted s mid u = record { covered = u.covered; owned = u.owned; ordered = u.
 
 -- a MID has a view
 pub mid_view : (d : SegmentationDescriptor) (i : SegmentationDetail) → d.descriptor_detail ≡ DescriptorDetail.Active i → i.segmentation_upid.upid_type ≡ 13
-    → view_of (Item.Is (Descriptor.Segmentation d)) ≡ i.segmentation_upid.bytes
+    → view_of (Some (Ok (Descriptor.Segmentation d))) ≡ i.segmentation_upid.bytes
 mid_view d i e k = ap (λ (y : DescriptorDetail). first_view (detail_views y)) e ∙ ap first_view (upid_view i.segmentation_upid (λ z. omega arith) (λ z. omega arith))
 
 -- what is handed back of its parts

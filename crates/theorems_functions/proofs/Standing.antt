@@ -14,7 +14,6 @@ use Rattle.descriptor.specs.Descriptor.{◌and_then◌, by_kind, reported_upid, 
 use Rattle.descriptor.specs.Plain.{avail, dtmf, time, private_table}
 use Rattle.descriptor.specs.Segmentation.{Head, head, front, back}
 use Rattle.descriptor.specs.declared.Descriptor.{Descriptor}
-use Rattle.descriptor.specs.declared.DescriptorRead.{DescriptorRead}
 use Rattle.descriptor.specs.declared.segmentation.DescriptorDetail.{DescriptorDetail}
 use Rattle.descriptor.specs.declared.segmentation.SegmentationUpid.{SegmentationUpid}
 use Rattle.descriptor_loop.proofs.Steps.{Stands, Clause, long, ended, last, small, entire, clause}
@@ -34,31 +33,32 @@ use Rattle.table.specs.declared.View.{View}
 use Rattle.theorems_reader.proofs.Runs.{viewed_is, length_run, lent_run, get_d_run}
 use Rattle.theorems_reader.specs.Identifiers.{Identifier, OneRun}
 use Rattle.upid.specs.Upid.{check_of}
-use Rattle.upid.specs.declared.UpidRead.{UpidRead}
 use Rattle.theorems_functions.specs.Flat.{kind_at, next_at, ItemStands}
+use Rattle.std.proofs.Common.{Ok, Err, Result}
+use Rattle.upid.specs.declared.Refusal.{Refusal}
 
 -- ---- what is read of a payload, by tag and identifier
 
-abbrev IsKind : ℕ → DescriptorRead → Type 0
-IsKind k (DescriptorRead.Is d) = (flat_descriptor d).kind ≡ k
-IsKind k (DescriptorRead.Refused r) = Unit {0}
+abbrev IsKind : ℕ → Result Descriptor Refusal → Type 0
+IsKind k (Ok d) = (flat_descriptor d).kind ≡ k
+IsKind k (Err r) = Unit {0}
 
-picked : (t : Bool) (a b : DescriptorRead) (k l : ℕ) → (t ≡ true → IsKind k a) → (t ≡ false → IsKind l b) → IsKind (pick t k l) (pick t a b)
+picked : (t : Bool) (a b : Result Descriptor Refusal) (k l : ℕ) → (t ≡ true → IsKind k a) → (t ≡ false → IsKind l b) → IsKind (pick t k l) (pick t a b)
 picked true a b k l p q = p refl
 picked false a b k l p q = q refl
 
 -- where both are of one kind
-either : (t : Bool) (a b : DescriptorRead) (k : ℕ) → IsKind k a → IsKind k b → IsKind k (pick t a b)
+either : (t : Bool) (a b : Result Descriptor Refusal) (k : ℕ) → IsKind k a → IsKind k b → IsKind k (pick t a b)
 either true a b k p q = p
 either false a b k p q = q
 
-and_then_lem : {X : Type 0} (a : Answer X) (g : X → ℕ → DescriptorRead) (k : ℕ) → ((x : X) (m : ℕ) → a ≡ got x m → IsKind k (g x m)) → IsKind k (a and_then g)
+and_then_lem : {X : Type 0} (a : Answer X) (g : X → ℕ → Result Descriptor Refusal) (k : ℕ) → ((x : X) (m : ℕ) → a ≡ got x m → IsKind k (g x m)) → IsKind k (a and_then g)
 and_then_lem (got x m) g k f = f x m refl
 and_then_lem (short expected actual) g k f = tt
 
-if_fine_lem : (c : UpidRead) (v : View) (g : SegmentationUpid → DescriptorRead) (k : ℕ) → ((q : ℕ) → IsKind k (g (reported_upid q v))) → IsKind k (if_fine c v g)
-if_fine_lem (UpidRead.Fine q) v g k f = f q
-if_fine_lem (UpidRead.Refused r) v g k f = tt
+if_fine_lem : (c : Result ℕ Refusal) (v : View) (g : SegmentationUpid → Result Descriptor Refusal) (k : ℕ) → ((q : ℕ) → IsKind k (g (reported_upid q v))) → IsKind k (if_fine c v g)
+if_fine_lem (Ok q) v g k f = f q
+if_fine_lem (Err r) v g k f = tt
 
 module _ (s : List ℕ) (bytes : (k : ℕ) → get_or s k 0 < 256) where
   in_avail : IsKind 1 (avail_of s)
@@ -129,10 +129,10 @@ moved_kind base (Descriptor.Segmentation x) = moved_detail_lem base x.segmentati
 moved_kind base (Descriptor.Time x) = refl
 moved_kind base (Descriptor.Reserved tag v) = refl
 
-item_kind : (base k : ℕ) (d : DescriptorRead) → IsKind k d → ((flat_item (item_at base d)).kind ≡ 7 → ⊥) → (flat_item (item_at base d)).kind ≡ k
+item_kind : (base k : ℕ) (d : Result Descriptor Refusal) → IsKind k d → ((flat_item (item_at base d)).kind ≡ 7 → ⊥) → (flat_item (item_at base d)).kind ≡ k
 unfolding flat_item blank_item
-item_kind base k (DescriptorRead.Is d) w n = moved_kind base d ∙ w
-item_kind base k (DescriptorRead.Refused r) w n = absurd (n refl)
+item_kind base k (Ok d) w n = moved_kind base d ∙ w
+item_kind base k (Err r) w n = absurd (n refl)
 
 -- what is whole ends where it says
 behind_whole : (q end behind L : ℕ) → q + 6 ≤ end → behind ≤ end → L ≤ 254 → pick (leb (q + 6) end && (leb behind end && leb L 254)) behind end ≡ behind

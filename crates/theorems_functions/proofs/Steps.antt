@@ -13,17 +13,19 @@ use Rattle.canonical_form.specs.Same.Pairs.{over, pair}
 use Rattle.descriptor_loop.proofs.Lists.{rest, rest_end, rest_more, items_rest}
 use Rattle.descriptor_loop.proofs.Steps.{step_end, turn, goes_on_lem, forward}
 use Rattle.descriptor_loop.specs.Items.{step_of, Listed, listed, items_of, unless_end}
-use Rattle.descriptor_loop.specs.declared.Item.{Item}
 use Rattle.descriptor_loop.specs.declared.Step.{Step}
 use Rattle.table.specs.Lent.{filled_to}
 use Rattle.upid.proofs.Laws.{by_cases}
 use Rattle.theorems_functions.specs.Calls.{Stepped}
 use Rattle.theorems_functions.specs.Calls.Stepped.{ended, then}
 use Rattle.theorems_functions.specs.Flat.{FlatListed, SteppedC, item_refusal, item_values, SameItem}
+use Rattle.std.proofs.Common.{Ok, Err, Some, None, Option, Result}
+use Rattle.descriptor.specs.declared.Descriptor.{Descriptor}
+use Rattle.descriptor_loop.specs.declared.ItemRefusal.{ItemRefusal}
 
 module _ (loop : List ℕ) (fits : length loop ≤ 4076) (Steps : ℕ → Step → Type 0) (so : (offset : ℕ) (st : Step) → Steps offset st → st ≡ step_of loop offset) where
   -- a step inside the loop is no end
-  pub not_end : (offset : ℕ) → offset < length loop → (step_of loop offset).item ≡ Item.End → ⊥
+  pub not_end : (offset : ℕ) → offset < length loop → (step_of loop offset).item ≡ None → ⊥
   not_end offset inside e =
       let z : unless_end (step_of loop offset).item (listed loop offset ∷ []) ≡ listed loop offset ∷ [] = goes_on_lem loop offset fits inside (listed loop offset ∷ []) in
       let n : ◌≡◌ {A = ℕ} 0 1 = ap length (rw e at z) in
@@ -31,7 +33,7 @@ module _ (loop : List ℕ) (fits : length loop ≤ 4076) (Steps : ℕ → Step �
 
   pub stepped_are : {offset : ℕ} {xs : List Listed} → Stepped Steps offset xs → xs ≡ rest loop fits offset
   stepped_are {offset = offset} (ended st s e) =
-      let same : (step_of loop offset).item ≡ Item.End = ap (λ (t : Step). t.item) (sym (so offset st s)) ∙ e in
+      let same : (step_of loop offset).item ≡ None = ap (λ (t : Step). t.item) (sym (so offset st s)) ∙ e in
       by_cases offset (length loop)
       (λ inside. absurd (not_end offset inside same))
       (λ past. sym (rest_end loop fits offset past))
@@ -47,17 +49,17 @@ module _ (loop : List ℕ) (fits : length loop ≤ 4076) (Steps : ℕ → Step �
 
 -- ---- over C
 
-pub item_refusal_lem : (x : Item) → refusal_in x ≡ item_refusal x
+pub item_refusal_lem : (x : Option (Result Descriptor ItemRefusal)) → refusal_in x ≡ item_refusal x
 unfolding refusal_in
-item_refusal_lem Item.End = refl
-item_refusal_lem (Item.Refused r) = refl
-item_refusal_lem (Item.Is d) = refl
+item_refusal_lem None = refl
+item_refusal_lem (Some (Err r)) = refl
+item_refusal_lem (Some (Ok d)) = refl
 
-pub item_values_lem : (x : Item) → values_in x ≡ filled_to 3 0 (item_values x)
+pub item_values_lem : (x : Option (Result Descriptor ItemRefusal)) → values_in x ≡ filled_to 3 0 (item_values x)
 unfolding values_in
-item_values_lem Item.End = refl
-item_values_lem (Item.Refused r) = refl
-item_values_lem (Item.Is d) = refl
+item_values_lem None = refl
+item_values_lem (Some (Err r)) = refl
+item_values_lem (Some (Ok d)) = refl
 
 module _ (loop : List ℕ) (fits : length loop ≤ 4076) (Steps : ℕ → FlatStep → Type 0) (so : (offset : ℕ) (f : FlatStep) → Steps offset f → f ≡ flat_step (step_of loop offset)) where
   next_is : (offset : ℕ) (f : FlatStep) → Steps offset f → f.next ≡ (step_of loop offset).next

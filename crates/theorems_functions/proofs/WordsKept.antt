@@ -35,7 +35,6 @@ use Rattle.canonical_form.specs.Same.{without_place, without_places, placeless_u
 use Rattle.command.proofs.Arrays.{array_take}
 use Rattle.command.specs.Command.{type_of, command_of, components_of, count_in, insert_count, array, with_view}
 use Rattle.command.specs.Insert.{count}
-use Rattle.command.specs.declared.CommandRead.{CommandRead}
 use Rattle.command.specs.declared.SpliceCommand.{SpliceCommand}
 use Rattle.command.specs.declared.components.InsertComponent.{InsertComponent}
 use Rattle.command.specs.declared.insert.SpliceDetail.{SpliceDetail}
@@ -47,7 +46,6 @@ use Rattle.descriptor.specs.declared.full.Beside.{Beside}
 use Rattle.descriptor.specs.declared.segmentation.DescriptorDetail.{DescriptorDetail}
 use Rattle.descriptor.specs.declared.segmentation.SegmentationComponent.{SegmentationComponent}
 use Rattle.descriptor_loop.specs.Items.{step_of, reading_of, listed}
-use Rattle.descriptor_loop.specs.declared.Item.{Item}
 use Rattle.descriptor_loop.specs.declared.reading.Reading.{Reading}
 use Rattle.descriptor_measure.specs.Writing.{count_beside, descriptor_made}
 use Rattle.descriptor_round_trips.proofs.Alike.{detail_view, DetailTold, NoneTold, made_told, size_is}
@@ -60,7 +58,6 @@ use Rattle.loop_round_trips.proofs.Pieces.{At, said, at_piece}
 use Rattle.loop_round_trips.proofs.Places.{viewed_there}
 use Rattle.section.specs.Section.{command_length, command_type, command_bytes, moved, private_view, section_of}
 use Rattle.section.specs.declared.Section.{Section}
-use Rattle.section.specs.declared.SectionRead.{SectionRead}
 use Rattle.section_writer.proofs.Numbers.{number_at}
 use Rattle.table.proofs.Lists.{zero_one, and_true}
 use Rattle.table.specs.Bits.{pick, bits_of, field, big_endian, AllBytes}
@@ -76,6 +73,9 @@ use Rattle.theorems_writer.specs.Making.{CommandPayload}
 use Rattle.theorems_functions.specs.Words.{command_view, item_view, SameBytes, ComponentsAgain, ItemAgain, BesideAgain}
 use Rattle.theorems_functions.proofs.Slices.{nothing_viewed}
 use Rattle.theorems_functions.proofs.WrittenOverC.{accepted_write, moved_command, same_take}
+use Rattle.std.proofs.Common.{Ok, None, Option, Result}
+use Rattle.command.specs.declared.CommandRefusal.{CommandRefusal}
+use Rattle.descriptor_loop.specs.declared.ItemRefusal.{ItemRefusal}
 
 -- ---- lists and views
 
@@ -139,9 +139,9 @@ view_size f h (SpliceCommand.TimeSignal t) = refl
 view_size f h SpliceCommand.BandwidthReservation = refl
 view_size f h (SpliceCommand.PrivateCommand p) = h p.private_bytes
 
-module _ (b : List ℕ) (x : Section) (e : section_of b ≡ SectionRead.Is x) where
+module _ (b : List ℕ) (x : Section) (e : section_of b ≡ Ok x) where
   -- they lie in the payload, and this in the section from byte 14 on
-  private_there : (k : ℕ) (c : SpliceCommand) → command_of k (command_bytes b) ≡ CommandRead.Is c
+  private_there : (k : ℕ) (c : SpliceCommand) → command_of k (command_bytes b) ≡ Ok c
       → (viewed b (private_view (moved 14 c)) ≡ viewed (command_bytes b) (private_view c)) × (length (viewed (command_bytes b) (private_view c)) ≡ (private_view c).len)
   unfolding moved command_bytes
   private_there k SpliceCommand.SpliceNull f = (nothing_viewed b ∙ sym (nothing_viewed (command_bytes b)), ap length (nothing_viewed (command_bytes b)))
@@ -204,8 +204,8 @@ unfolding command_words flat_insert_components
 components_again command components c cs lent p f is k five e =
     let w : (i : ℕ) → i < 21 → word command i ≡ word (command_words (flat_command c)) i = same_at (command_words (flat_command c)) command is.own in
     let type : type_of c ≡ 0x05 = sym (w 1 (omega arith) ∙ type_word c) ∙ five in
-    let read : command_of 0x05 p ≡ CommandRead.Is k.again = ap (λ (n : ℕ). command_of n p) (sym type) ∙ k.reading in
-    let g : f ≡ flat_insert_components (CommandRead.Is k.again) (components_of p) = e ∙ ap (λ (r : CommandRead). flat_insert_components r (components_of p)) read in
+    let read : command_of 0x05 p ≡ Ok k.again = ap (λ (n : ℕ). command_of n p) (sym type) ∙ k.reading in
+    let g : f ≡ flat_insert_components (Ok k.again) (components_of p) = e ∙ ap (λ (r : Result SpliceCommand CommandRefusal). flat_insert_components r (components_of p)) read in
     let n : count_in k.again ≡ count_in c = sym (placeless_count k.again) ∙ ap count_in k.values ∙ placeless_count c in
     let own : take (count_in k.again) (components_of p) ≡ cs = k.components ∙ array_take cs (count_in c) is.counts in
     let enough : count_in k.again ≤ length (components_of p) = taken_there (count_in k.again) (components_of p) (ap length own ∙ is.counts ∙ sym n) in
@@ -422,7 +422,7 @@ module _ (step beside lent b : List ℕ) (w : DescriptorOf step beside lent b) w
     beside_again f e =
         let cs : List SegmentationComponent = (reading_of loop offset).beside.components in
         let n : ℕ = count_beside back.again in
-        let count : f.count ≡ n = ap (λ (v : FlatBeside). v.count) e ∙ ap (λ (i : Item). (flat_item i).segmentation.component_count) back.is ∙ flat_count back.again in
+        let count : f.count ≡ n = ap (λ (v : FlatBeside). v.count) e ∙ ap (λ (i : Option (Result Descriptor ItemRefusal)). (flat_item i).segmentation.component_count) back.is ∙ flat_count back.again in
         let alike : n ≡ count_beside w.own = sym (placeless_beside back.again) ∙ ap count_beside back.same.values ∙ placeless_beside w.own in
         let own : take n cs ≡ w.is.listed =
         back.same.components ∙ ap (λ (l : List SegmentationComponent). take (count_beside w.own) l) w.is.components ∙ counted_again (count_beside w.own) w.is.listed w.is.count in

@@ -20,7 +20,6 @@ use Rattle.canonical_form.specs.Descriptor.{canonical_descriptor}
 use Rattle.command.specs.Command.{command_of, components_of}
 use Rattle.section.specs.Section.{command_length, command_bytes}
 use Rattle.section.specs.declared.Section.{Section}
-use Rattle.section.specs.declared.SectionRead.{SectionRead}
 use Rattle.table.specs.Bits.{AllBytes}
 use Rattle.table.specs.Lent.{viewed}
 use Rattle.theorems_reader.proofs.Sections.{loop_short}
@@ -29,6 +28,7 @@ use Rattle.theorems_functions.specs.Flat.{taken}
 use Rattle.theorems_functions.specs.Words.{command_view, SameBytes, ComponentsAgain, ItemAgain, BesideAgain}
 use Rattle.theorems_functions.proofs.OverC.{ReadsSectionC, reads_section_so, ReadsItemC, reads_item_so, ReadsBesideC, reads_beside_so, ReadsComponentsC, reads_components_so, WritesSectionC, WritesDescriptorC, writes_descriptor_so, what_is_written_over_c_is_read_back, what_is_written_over_c_has_its_words}
 use Rattle.theorems_functions.proofs.WordsKept as kept
+use Rattle.std.proofs.Common.{Ok}
 
 -- ---- a section
 
@@ -41,7 +41,7 @@ the_components_written_over_c_are_read_back header command components lent loop 
     let b : List ℕ = take answer.«length» later in
     let w = what_is_written_over_c_is_read_back header command components lent loop target answer later a l p z in
     let x : Section = w.section.header.reading in
-    let e : f ≡ flat_section_read (SectionRead.Is x) = reads_section_so d ∙ ap flat_section_read w.section.header.reads in
+    let e : f ≡ flat_section_read (Ok x) = reads_section_so d ∙ ap flat_section_read w.section.header.reads in
     let v : f.payload ≡ record { at = 14; len = command_length b } = ap (λ (y : FlatSection). y.payload) e ∙ ap flat_view (reading.what_an_accepted_section_says b x w.section.header.reads).3 in
     let q : taken b f.payload ≡ command_bytes b = ap (taken b) v in
     kept.components_again command components w.own_command w.own_components lent (command_bytes b) places w.command_is_lem w.section.command five
@@ -56,7 +56,7 @@ the_private_bytes_written_over_c_are_read_back header command components lent lo
     let b : List ℕ = take answer.«length» later in
     let w = what_is_written_over_c_is_read_back header command components lent loop target answer later a l p z in
     let x : Section = w.section.header.reading in
-    let e : f ≡ flat_section_read (SectionRead.Is x) = reads_section_so d ∙ ap flat_section_read w.section.header.reads in
+    let e : f ≡ flat_section_read (Ok x) = reads_section_so d ∙ ap flat_section_read w.section.header.reads in
     subst (λ (y : FlatSection). SameBytes b y.command.private_bytes lent (command_view command)) (sym e)
     (kept.private_again b x w.section.header.reads command components w.own_command w.own_components _ lent w.command_is_lem w.section.type w.section.command)
 

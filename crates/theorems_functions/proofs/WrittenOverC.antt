@@ -8,7 +8,6 @@ use borrow.Author.Tests.{eqb-true, eqb-false}
 use lib.Dec.{eqb, ltb, leb}
 use lib.ListN.{length, take, drop, replicate, length-append, length-replicate}
 use Rattle.bit_stores.specs.Written.{answer_of, later_of}
-use Rattle.bit_stores.specs.declared.Written.{Written}
 use Rattle.c_command_writer.proofs.Answers as command_answers
 use Rattle.c_command_writer.proofs.Given.{given_typed}
 use Rattle.c_command_writer.proofs.Typed.{TypedMode, TypedDetail, Typed}
@@ -24,7 +23,6 @@ use Rattle.c_section_writer.specs.SectionWords.{header_words, header_widths}
 use Rattle.canonical_form.specs.Same.{without_place, SameHeader}
 use Rattle.command.specs.Command.{array, with_view, count_in, insert_count}
 use Rattle.command.specs.Insert.{blank, count}
-use Rattle.command.specs.declared.CommandRead.{CommandRead}
 use Rattle.command.specs.declared.SpliceCommand.{SpliceCommand}
 use Rattle.command.specs.declared.components.InsertComponent.{InsertComponent}
 use Rattle.command.specs.declared.insert.SpliceDetail.{SpliceDetail}
@@ -42,6 +40,8 @@ use Rattle.table.specs.declared.View.{View}
 use Rattle.theorems_writer.proofs.Theorems as writing
 use Rattle.theorems_writer.specs.Making.{SectionMakes}
 use Rattle.theorems_functions.specs.Flat.{WrittenOf}
+use Rattle.std.proofs.Common.{Ok, Err, Result}
+use Rattle.command.specs.declared.CommandRefusal.{CommandRefusal}
 
 -- ---- words that are not refused
 
@@ -179,12 +179,12 @@ less_some k m g n e z = go (eqb k 0) refl e
     go true f e = g n e z
     go false f e = let q : lowest k m ≡ n = cc in lowest_some k m (eqb-false k 0 f) g (q ∙ z)
 
-answer_some : (m : Made) (target : List ℕ) → ((n : ℕ) → m ≡ refused n → n ≡ 0 → ⊥) → (n : ℕ) → answer_of m target ≡ Written.Refused n → n ≡ 0 → ⊥
+answer_some : (m : Made) (target : List ℕ) → ((n : ℕ) → m ≡ refused n → n ≡ 0 → ⊥) → (n : ℕ) → answer_of m target ≡ Err n → n ≡ 0 → ⊥
 unfolding answer_of
 answer_some (refused k) target g n e z = let q : k ≡ n = cc in g k refl (q ∙ z)
 answer_some (made b) target g n e z = go (leb (length b) (length target)) e
   where
-    go : (t : Bool) → pick t (Written.Wrote (length b)) (Written.Refused 36) ≡ Written.Refused n → ⊥
+    go : (t : Bool) → pick {A = Result ℕ ℕ} t (Ok (length b)) (Err 36) ≡ Err n → ⊥
     go true e = zero_one cc
     go false e = let q : 36 ≡ n = cc in omega arith
 
@@ -193,9 +193,9 @@ pub accepted_write : (m : Made) (target : List ℕ) → ((n : ℕ) → m ≡ ref
 unfolding flat_written
 accepted_write m target some z = go (answer_of m target) refl z
   where
-    go : (w : Written) → answer_of m target ≡ w → (flat_written w).refusal ≡ 0 → (b : List ℕ) × (m ≡ made b) × (take (flat_written w).«length» (later_of m target) ≡ b) × (length b ≡ (flat_written w).«length»)
-    go (Written.Wrote n) e z = let c = writing.an_accepted_write_changes_only_its_result m target n e in (c.result, c.is, c.start, c.number)
-    go (Written.Refused n) e z = absurd (answer_some m target some n e z)
+    go : (w : Result ℕ ℕ) → answer_of m target ≡ w → (flat_written w).refusal ≡ 0 → (b : List ℕ) × (m ≡ made b) × (take (flat_written w).«length» (later_of m target) ≡ b) × (length b ≡ (flat_written w).«length»)
+    go (Ok n) e z = let c = writing.an_accepted_write_changes_only_its_result m target n e in (c.result, c.is, c.start, c.number)
+    go (Err n) e z = absurd (answer_some m target some n e z)
 
 -- the bytes that an accepted write left are what was made
 pub written_bytes : (m : Made) (target : List ℕ) (answer : FlatWritten) (later : List ℕ) → ((n : ℕ) → m ≡ refused n → n ≡ 0 → ⊥) → answer ≡ flat_written (answer_of m target) → later ≡ later_of m target
@@ -250,6 +250,6 @@ same_take (suc n) (x ∷ own) words e =
     rw a.0 (same_take n own (drop 1 words) a.1)
 
 -- the command that is read in a section is its payload's
-pub moved_command : (c : SpliceCommand) (r : CommandRead) (x : SpliceCommand) → r ≡ CommandRead.Is c → moved_read r ≡ CommandRead.Is x → x ≡ moved 14 c
+pub moved_command : (c : SpliceCommand) (r : Result SpliceCommand CommandRefusal) (x : SpliceCommand) → r ≡ Ok c → moved_read r ≡ Ok x → x ≡ moved 14 c
 unfolding moved_read
-moved_command c r x e f = let z : CommandRead.Is (moved 14 c) ≡ CommandRead.Is x = sym (ap moved_read e) ∙ f in cc
+moved_command c r x e f = let z : Ok (moved 14 c) ≡ Ok x = sym (ap moved_read e) ∙ f in cc

@@ -1,5 +1,5 @@
 -- Demands over C: what the words of an answer say of the section.
-use Rattle.std.specs.Prelude.{ℕ, ◌+◌, ◌-◌, ◌/◌, ◌%◌, ◌≤◌, ◌<◌, true, ◌&&◌, List, [], ◌∷◌, ◌++◌, ◌≡◌, eqb, leb, length, take, drop, get_or, replicate}
+use Rattle.std.specs.Prelude.{ℕ, ◌+◌, ◌-◌, ◌/◌, ◌%◌, ◌≤◌, ◌<◌, true, ◌&&◌, List, [], ◌∷◌, ◌++◌, ◌≡◌, eqb, leb, length, take, drop, get_or, replicate, Ok, Err, Some, None, Option, Result}
 use Rattle.c_command_writer.specs.CommandWords.{command_words, CommandIs}
 use Rattle.c_command_writer.specs.Words.{same}
 use Rattle.c_section.specs.declared.FlatView.{FlatView}
@@ -17,15 +17,16 @@ use Rattle.c_command_writer.specs.declared.FlatWritten.{FlatWritten}
 use Rattle.descriptor.specs.Descriptor.{by_kind}
 use Rattle.descriptor_loop.specs.Items as items
 use Rattle.descriptor_loop.specs.Items.{Listed}
-use Rattle.descriptor_loop.specs.declared.Item.{Item}
 use Rattle.section.specs.Section.{command_length, command_bytes, loop_length}
 use Rattle.table.specs.Bits.{pick, bits_of, field}
 use Rattle.theorems_reader.specs.Whole.{upid_at}
 use Rattle.theorems_writer.specs.Making.{SectionBytes}
 use Rattle.upid.specs.Upid.{number_of}
 use Rattle.upid.specs.declared.Part.{Part}
-use Rattle.upid.specs.declared.UpidRead.{UpidRead}
 use Rattle.theorems_functions.specs.Slices.{reported_as}
+use Rattle.descriptor.specs.declared.Descriptor.{Descriptor}
+use Rattle.descriptor_loop.specs.declared.ItemRefusal.{ItemRefusal}
+use Rattle.upid.specs.declared.Refusal.{Refusal}
 
 -- a view of lent bytes that start at `base` of the section is the n bytes from `at` on, which are there
 pub record Lies (s : List ℕ) (base at n : ℕ) (v : FlatView) : Type 0 where
@@ -103,16 +104,16 @@ pub data SteppedC (Steps : ℕ → FlatStep → Type 0) (end : ℕ) : ℕ → Li
       → SteppedC Steps end offset (record { offset = offset; step = step } ∷ xs)
 
 -- the number of an item's refusal, 0 where it has none
-abbrev pub item_refusal : Item → ℕ
-item_refusal Item.End = 0
-item_refusal (Item.Refused r) = items.number_of r
-item_refusal (Item.Is d) = 0
+abbrev pub item_refusal : Option (Result Descriptor ItemRefusal) → ℕ
+item_refusal None = 0
+item_refusal (Some (Err r)) = items.number_of r
+item_refusal (Some (Ok d)) = 0
 
 -- and its values
-abbrev pub item_values : Item → List ℕ
-item_values Item.End = []
-item_values (Item.Refused r) = items.values_of r
-item_values (Item.Is d) = []
+abbrev pub item_values : Option (Result Descriptor ItemRefusal) → List ℕ
+item_values None = []
+item_values (Some (Err r)) = items.values_of r
+item_values (Some (Ok d)) = []
 
 -- the item of the loop that it is: where it starts and ends, and its refusal
 pub record SameItem (x : FlatListed) (y : Listed) : Type 0 where
@@ -121,9 +122,9 @@ pub record SameItem (x : FlatListed) (y : Listed) : Type 0 where
   pub refusal : x.step.refusal ≡ item_refusal y.step.item
 
 -- ---- a UPID: the number of what it is read as, 0 where it is read
-abbrev pub upid_refusal : UpidRead → ℕ
-upid_refusal (UpidRead.Fine k) = 0
-upid_refusal (UpidRead.Refused r) = number_of r
+abbrev pub upid_refusal : Result ℕ Refusal → ℕ
+upid_refusal (Ok k) = 0
+upid_refusal (Err r) = number_of r
 
 -- the type of one that is read, which is reported, and an EIDR, which is held by value; 0 stands where there is nothing
 pub record UpidSays (upid_type : ℕ) (bytes : List ℕ) (u : FlatUpid) : Type 0 where

@@ -1,10 +1,9 @@
 -- What it means that the slice which a function hands back is the whole identifier that the section's own bytes announce (`Whole`, theorems_reader/specs/Whole.antt,
 -- says it of a reading's views).
-use Rattle.std.specs.Prelude.{ℕ, ◌+◌, ◌-◌, ◌/◌, ◌%◌, ◌≤◌, List, [], ◌∷◌, ◌≡◌, eqb, get_or}
+use Rattle.std.specs.Prelude.{ℕ, ◌+◌, ◌-◌, ◌/◌, ◌%◌, ◌≤◌, List, [], ◌∷◌, ◌≡◌, eqb, get_or, Ok, Err, Some, None, Option, Result}
 use Rattle.command.specs.declared.SpliceCommand.{SpliceCommand}
 use Rattle.descriptor.specs.declared.Descriptor.{Descriptor}
 use Rattle.descriptor.specs.declared.segmentation.DescriptorDetail.{DescriptorDetail}
-use Rattle.descriptor_loop.specs.declared.Item.{Item}
 use Rattle.descriptor_loop.specs.declared.ItemRefusal.{ItemRefusal}
 use Rattle.descriptor_loop.specs.declared.reading.Reading.{Reading}
 use Rattle.section.specs.Section.{command_length}
@@ -49,14 +48,14 @@ RefusalSlice s p b (ItemRefusal.Other (Refusal.InvalidUpidContent upid_type v)) 
 RefusalSlice s p b (ItemRefusal.Other (Refusal.InvalidUpidLength upid_type expected actual)) = b ≡ []
 
 -- ---- an item that starts at byte q of the section, read as r, of which b is handed back: DTMF characters, a UPID, a reserved descriptor's bytes with its identifier
-abbrev pub ItemSlice : List ℕ → ℕ → Reading → List ℕ → Item → Type 0
-ItemSlice s q r b Item.End = b ≡ []
-ItemSlice s q r b (Item.Refused x) = RefusalSlice s (q + 6) b x
-ItemSlice s q r b (Item.Is (Descriptor.Avail x)) = b ≡ []
-ItemSlice s q r b (Item.Is (Descriptor.Dtmf x)) = Slice s (q + 6 + 2) (get_or s (q + 6 + 1) 0 / 32) b
-ItemSlice s q r b (Item.Is (Descriptor.Segmentation x)) = DetailSlice s (q + 6) r.beside.eidr b x.descriptor_detail
-ItemSlice s q r b (Item.Is (Descriptor.Time x)) = b ≡ []
-ItemSlice s q r b (Item.Is (Descriptor.Reserved tag v)) = Slice s (q + 6) (get_or s (q + 1) 0 - 4) b × Slice s (q + 2) 4 r.step.identifier
+abbrev pub ItemSlice : List ℕ → ℕ → Reading → List ℕ → Option (Result Descriptor ItemRefusal) → Type 0
+ItemSlice s q r b None = b ≡ []
+ItemSlice s q r b (Some (Err x)) = RefusalSlice s (q + 6) b x
+ItemSlice s q r b (Some (Ok (Descriptor.Avail x))) = b ≡ []
+ItemSlice s q r b (Some (Ok (Descriptor.Dtmf x))) = Slice s (q + 6 + 2) (get_or s (q + 6 + 1) 0 / 32) b
+ItemSlice s q r b (Some (Ok (Descriptor.Segmentation x))) = DetailSlice s (q + 6) r.beside.eidr b x.descriptor_detail
+ItemSlice s q r b (Some (Ok (Descriptor.Time x))) = b ≡ []
+ItemSlice s q r b (Some (Ok (Descriptor.Reserved tag v))) = Slice s (q + 6) (get_or s (q + 1) 0 - 4) b × Slice s (q + 2) 4 r.step.identifier
 
 -- ---- a part of a MID whose bytes start at `start` of the section: it lies behind its own head, whose two bytes are its type and its length
 pub record PartSlice (s : List ℕ) (start : ℕ) (p : Part) (b : List ℕ) : Type 0 where

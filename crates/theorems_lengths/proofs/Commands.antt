@@ -17,11 +17,9 @@ use Rattle.command.specs.Command.{private, read, command_of, components_of}
 use Rattle.command.specs.Writable.{writable_insert}
 use Rattle.command.specs.Insert.{WithComponents, time_unless, component, blank, moded, ending, active, active_of, insert}
 use Rattle.splice_time.specs.Break.{break_duration}
-use Rattle.command.specs.declared.CommandRead.{CommandRead}
 use Rattle.command.specs.declared.Private.{Private}
 use Rattle.command.specs.declared.SpliceCommand.{SpliceCommand}
 use Rattle.command.specs.declared.components.InsertComponent.{InsertComponent}
-use Rattle.splice_time.specs.declared.break_duration.Break.{Break}
 use Rattle.command.specs.declared.insert.InsertDetail.{InsertDetail}
 use Rattle.command.specs.declared.insert.SpliceInsert.{SpliceInsert}
 use Rattle.command.specs.declared.insert.SpliceDetail.{SpliceDetail}
@@ -29,7 +27,6 @@ use Rattle.command.specs.declared.insert.SpliceMode.{SpliceMode}
 use Rattle.command_measure.specs.Made.{counted, times_fit, insert_made, command_made}
 use Rattle.section.specs.Section.{command_type, command_length, command_bytes, moved, section_of}
 use Rattle.section.specs.declared.Section.{Section}
-use Rattle.section.specs.declared.SectionRead.{SectionRead}
 use Rattle.splice_time.proofs.Times.{time_size, time_write_read}
 use Rattle.splice_time.specs.Time.{splice_time, ticks}
 use Rattle.splice_time.specs.declared.SpliceTime.{SpliceTime}
@@ -44,6 +41,9 @@ use Rattle.table.specs.Writing.{made, refused, make}
 use Rattle.theorems_reader.proofs.Framed.{laid}
 use Rattle.theorems_writer.proofs.InsertsRead.{insert_has, got_same}
 use Rattle.theorems_writer.proofs.WrittenBack.{components_are, counted_is}
+use Rattle.std.proofs.Common.{Ok, Err, Option, Result}
+use Rattle.command.specs.declared.CommandRefusal.{CommandRefusal}
+use Rattle.splice_time.specs.declared.break_duration.SpliceDuration.{SpliceDuration}
 
 got_end : {X : Type 0} {x y : X} {m n : ℕ} → got x m ≡ got y n → m ≡ n
 got_end e = cc
@@ -95,7 +95,7 @@ module _ (s : List ℕ) where
       let r = reads_in (list n blank (component b)) _ _ (bits_of s) (at + 8) x m (reads_number s at 8 _ _ x m e).1 in
       rw (← got_same r.back) (omega (arith, got_end r.back, list_past b n (at + 8) r.inner r.seam r.front))
 
-  break_past : (d : Bool) (at : ℕ) (y : Break) (m : ℕ) → parse (break_duration d) (bits_of s) at ≡ got y m → m ≡ at + break_bytes y * 8
+  break_past : (d : Bool) (at : ℕ) (y : Option SpliceDuration) (m : ℕ) → parse (break_duration d) (bits_of s) at ≡ got y m → m ≡ at + break_bytes y * 8
   unfolding break_duration
   break_past true at y m e =
       let a = (reads_ones s (at + 1) 6 _ y m (reads_flag s at _ _ y m e).1).1 in
@@ -155,31 +155,31 @@ module _ (s : List ℕ) where
 -- ---- what is written of a command that is read of the payload s
 
 module _ (s : List ℕ) where
-  abbrev Sized : CommandRead → Type 0
-  Sized (CommandRead.Is c) = (lent p : List ℕ) → command_made (moved 14 c) (components_of s) lent ≡ made p → length p ≤ length s
-  Sized CommandRead.UnknownType = Unit {0}
-  Sized CommandRead.Malformed = Unit {0}
+  abbrev Sized : Result SpliceCommand CommandRefusal → Type 0
+  Sized (Ok c) = (lent p : List ℕ) → command_made (moved 14 c) (components_of s) lent ≡ made p → length p ≤ length s
+  Sized (Err CommandRefusal.UnknownType) = Unit {0}
+  Sized (Err CommandRefusal.Malformed) = Unit {0}
 
   none_written : (p : List ℕ) → made [] ≡ made p → length p ≤ length s
   none_written p e = let z : p ≡ [] = cc in rw z (omega arith)
 
-  null_sized : Sized (CommandRead.Is SpliceCommand.SpliceNull)
+  null_sized : Sized (Ok SpliceCommand.SpliceNull)
   unfolding command_made moved
   null_sized lent p e = none_written p e
 
-  bandwidth_sized : Sized (CommandRead.Is SpliceCommand.BandwidthReservation)
+  bandwidth_sized : Sized (Ok SpliceCommand.BandwidthReservation)
   unfolding command_made moved
   bandwidth_sized lent p e = none_written p e
 
-  time_sized : (t : SpliceTime) (m : ℕ) → parse splice_time (bits_of s) 0 ≡ got t m → Sized (CommandRead.Is (SpliceCommand.TimeSignal t))
+  time_sized : (t : SpliceTime) (m : ℕ) → parse splice_time (bits_of s) 0 ≡ got t m → Sized (Ok (SpliceCommand.TimeSignal t))
   unfolding command_made moved
   time_sized t m e lent p w = omega (arith, time_past (p ++ []) 0 t (length p * 8) (time_write_read [] t p [] w).0, time_past s 0 t m e, within s splice_time t m e)
 
-  private_sized : (x : Private) (m : ℕ) → parse private (bits_of s) 0 ≡ got x m → Sized (CommandRead.Is (SpliceCommand.PrivateCommand x))
+  private_sized : (x : Private) (m : ℕ) → parse private (bits_of s) 0 ≡ got x m → Sized (Ok (SpliceCommand.PrivateCommand x))
   unfolding command_made moved
   private_sized x m e lent p w = omega (arith, private_past (p ++ []) _ (length p * 8) (private_write_read lent _ p [] w refl).0, private_past s x m e, within s private x m e)
 
-  insert_sized : (x : WithComponents SpliceInsert) (m : ℕ) → parse insert (bits_of s) 0 ≡ got x m → Sized (CommandRead.Is (SpliceCommand.SpliceInsert x.value))
+  insert_sized : (x : WithComponents SpliceInsert) (m : ℕ) → parse insert (bits_of s) 0 ≡ got x m → Sized (Ok (SpliceCommand.SpliceInsert x.value))
   unfolding command_made insert_made moved
   insert_sized x m e lent p w =
       let h = (insert_has s x m e).0 in
@@ -190,11 +190,11 @@ module _ (s : List ℕ) where
       go true f = omega (arith, insert_past (p ++ []) x (length p * 8) (insert_write_read [] x p [] (insert_has s x m e).0 f).0, insert_past s x m e, within s insert x m e)
       go false f = zero_one cc
 
-  picked : (b : Bool) (x y : CommandRead) → Sized x → Sized y → Sized (pick b x y)
+  picked : (b : Bool) (x y : Result SpliceCommand CommandRefusal) → Sized x → Sized y → Sized (pick b x y)
   picked true x y h k = h
   picked false x y h k = k
 
-  reading : {X : Type 0} (f : X → SpliceCommand) (r : Answer X) → ((x : X) (m : ℕ) → r ≡ got x m → Sized (CommandRead.Is (f x))) → Sized (read f r)
+  reading : {X : Type 0} (f : X → SpliceCommand) (r : Answer X) → ((x : X) (m : ℕ) → r ≡ got x m → Sized (Ok (f x))) → Sized (read f r)
   reading f (got x m) h = h x m refl
   reading f (short e a) h = tt
 
@@ -213,8 +213,8 @@ payload_length : (s : List ℕ) → length (command_bytes s) ≤ command_length 
 unfolding command_bytes
 payload_length s = omega (arith, length-take (command_length s) (drop 14 s))
 
-pub command_shorter : (s : List ℕ) (x : Section) → section_of s ≡ SectionRead.Is x → (p : List ℕ) → command_made x.command (components_of (command_bytes s)) s ≡ made p → length p ≤ command_length s
+pub command_shorter : (s : List ℕ) (x : Section) → section_of s ≡ Ok x → (p : List ℕ) → command_made x.command (components_of (command_bytes s)) s ≡ made p → length p ≤ command_length s
 command_shorter s x e p w =
     let l = laid s x e in
-    let z : Sized (command_bytes s) (CommandRead.Is l.read) = rw l.from at (all_sized (command_bytes s) (command_type s)) in
+    let z : Sized (command_bytes s) (Ok l.read) = rw l.from at (all_sized (command_bytes s) (command_type s)) in
     omega (arith, z s p (sym (ap (λ (c : SpliceCommand). command_made c (components_of (command_bytes s)) s) l.command) ∙ w), payload_length s)

@@ -1,5 +1,6 @@
 -- What is written of an item that is read has no more bytes than the item.
 --     item_shorter    at any offset of any loop; and it is bytes
+use Rattle.descriptor_loop.specs.declared.ItemRefusal.{ItemRefusal}
 use Prim.Native.Nat.{ℕ, ◌+◌, ◌-◌, ◌≤◌, ◌<◌}
 use mathlib.Core.Bool.{Bool, true, false}
 use mathlib.Core.List.{List, [], ◌∷◌, ◌++◌}
@@ -15,13 +16,11 @@ use Rattle.descriptor.specs.Segmentation.{head, front, back}
 use Rattle.descriptor.specs.Full.{beside_read, identifier_read}
 use Rattle.descriptor.specs.declared.Descriptor.{Descriptor}
 use Rattle.descriptor.specs.declared.Descriptor.TheVariants.{Avail, Dtmf, Segmentation, Time, Reserved}
-use Rattle.descriptor.specs.declared.DescriptorRead.{DescriptorRead}
 use Rattle.descriptor.specs.declared.segmentation.SegmentationUpid.{SegmentationUpid}
 use Rattle.descriptor.specs.declared.full.Beside.{Beside}
 use Rattle.descriptor_loop.proofs.Steps.{Stands, Clause, long, ended, last, small, entire, clause}
 use Rattle.descriptor_loop.specs.Items.{item_at, read_at, complete_at, step_of, beside_item, reading_of}
 use Rattle.descriptor_loop.specs.Place.{moved_descriptor}
-use Rattle.descriptor_loop.specs.declared.Item.{Item}
 use Rattle.descriptor_loop.specs.declared.Step.{Step}
 use Rattle.descriptor_measure.specs.Writing.{count_beside, enveloped, enveloped_made, payload_made, descriptor_made, tag_of, identifier_of}
 use Rattle.descriptor_round_trips.proofs.Alike.{SameView, alike_made, made_told}
@@ -39,7 +38,8 @@ use Rattle.table.specs.Writing.{Made, made, refused}
 use Rattle.table.specs.declared.View.{View}
 use Rattle.theorems_writer.proofs.WritablePayloads.{Ready, ready, written_of}
 use Rattle.upid.specs.Upid.{check_of}
-use Rattle.upid.specs.declared.UpidRead.{UpidRead}
+use Rattle.std.proofs.Common.{Ok, Err, Some, Result, Option}
+use Rattle.upid.specs.declared.Refusal.{Refusal}
 
 pub bytes_both : (a b : List ℕ) → AllBytes a → AllBytes b → AllBytes (a ++ b)
 bytes_both [] b h k = k
@@ -70,28 +70,28 @@ envelope_bytes tag id p t i a l = (t, (omega arith, bytes_both id p i a))
 cuei_bytes : AllBytes (0x43 ∷ 0x55 ∷ 0x45 ∷ 0x49 ∷ [])
 cuei_bytes = (omega arith, (omega arith, (omega arith, (omega arith, tt))))
 
-identifier_bytes : (d : Descriptor) (id : List ℕ) → AllBytes id → AllBytes (identifier_of d (identifier_read (DescriptorRead.Is d) id))
+identifier_bytes : (d : Descriptor) (id : List ℕ) → AllBytes id → AllBytes (identifier_of d (identifier_read (Ok d) id))
 identifier_bytes (Avail x) id a = cuei_bytes
 identifier_bytes (Dtmf x) id a = cuei_bytes
 identifier_bytes (Segmentation x) id a = cuei_bytes
 identifier_bytes (Time x) id a = cuei_bytes
 identifier_bytes (Reserved tag v) id a = a
 
-abbrev Tagged : DescriptorRead → Type 0
-Tagged (DescriptorRead.Is d) = tag_of d < 256
-Tagged (DescriptorRead.Refused r) = Unit {0}
+abbrev Tagged : Result Descriptor Refusal → Type 0
+Tagged (Ok d) = tag_of d < 256
+Tagged (Err r) = Unit {0}
 
-picked : (t : Bool) (x y : DescriptorRead) → Tagged x → Tagged y → Tagged (pick t x y)
+picked : (t : Bool) (x y : Result Descriptor Refusal) → Tagged x → Tagged y → Tagged (pick t x y)
 picked true x y p q = p
 picked false x y p q = q
 
-and_then_lem : {X : Type 0} (r : Answer X) (k : X → ℕ → DescriptorRead) → ((x : X) (m : ℕ) → Tagged (k x m)) → Tagged (r and_then k)
+and_then_lem : {X : Type 0} (r : Answer X) (k : X → ℕ → Result Descriptor Refusal) → ((x : X) (m : ℕ) → Tagged (k x m)) → Tagged (r and_then k)
 and_then_lem (got x m) k f = f x m
 and_then_lem (short expected actual) k f = tt
 
-if_fine_lem : (c : UpidRead) (v : View) (k : SegmentationUpid → DescriptorRead) → ((u : SegmentationUpid) → Tagged (k u)) → Tagged (if_fine c v k)
-if_fine_lem (UpidRead.Fine q) v k f = f (reported_upid q v)
-if_fine_lem (UpidRead.Refused r) v k f = tt
+if_fine_lem : (c : Result ℕ Refusal) (v : View) (k : SegmentationUpid → Result Descriptor Refusal) → ((u : SegmentationUpid) → Tagged (k u)) → Tagged (if_fine c v k)
+if_fine_lem (Ok q) v k f = f (reported_upid q v)
+if_fine_lem (Err r) v k f = tt
 
 module _ (s : List ℕ) where
   in_active : (event at : ℕ) → Tagged (active_of s event at)
@@ -136,14 +136,14 @@ module _ (s : List ℕ) where
 abbrev Short : List ℕ → List ℕ → Beside → Descriptor → ℕ → Type 0
 Short loop id beside d n = (b : List ℕ) → descriptor_made d id beside loop ≡ made b → AllBytes b × (length b ≤ n)
 
-beside_stays : (base : ℕ) (d : Descriptor) (l : List ℕ) → beside_read (DescriptorRead.Is d) l ≡ beside_read (DescriptorRead.Is (moved_descriptor base d)) l
+beside_stays : (base : ℕ) (d : Descriptor) (l : List ℕ) → beside_read (Ok d) l ≡ beside_read (Ok (moved_descriptor base d)) l
 beside_stays base (Avail x) l = refl
 beside_stays base (Dtmf x) l = refl
 beside_stays base (Segmentation x) l = refl
 beside_stays base (Time x) l = refl
 beside_stays base (Reserved tag v) l = refl
 
-is_one : (d e : Descriptor) → Item.Is d ≡ Item.Is e → d ≡ e
+is_one : (d e : Descriptor) → ◌≡◌ {A = Option (Result Descriptor ItemRefusal)} (Some (Ok d)) (Some (Ok e)) → d ≡ e
 is_one d e h = cc
 
 made_one : (b c : List ℕ) → made b ≡ made c → b ≡ c
@@ -175,12 +175,12 @@ module _ (loop : List ℕ) (a : AllBytes loop) (offset L : ℕ) (st : Stands loo
   id_bytes = bytes_take 4 (drop (offset + 2) loop) (bytes_drop (offset + 2) loop a)
 
   -- what is written of a descriptor in its payload: the payload has as many bytes as its table reads, which are there (`Ready`)
-  in_payload : (d : Descriptor) → descriptor_of (get_or loop offset 0) id payload ≡ DescriptorRead.Is d
-      → Short payload (identifier_read (DescriptorRead.Is d) id) (beside_read (DescriptorRead.Is d) payload) d (offset + (L + 2) - offset)
+  in_payload : (d : Descriptor) → descriptor_of (get_or loop offset 0) id payload ≡ Ok d
+      → Short payload (identifier_read (Ok d) id) (beside_read (Ok d) payload) d (offset + (L + 2) - offset)
   unfolding descriptor_made
   in_payload d e b m =
-      let own : List ℕ = identifier_read (DescriptorRead.Is d) id in
-      let beside : Beside = beside_read (DescriptorRead.Is d) payload in
+      let own : List ℕ = identifier_read (Ok d) id in
+      let beside : Beside = beside_read (Ok d) payload in
       let r : Ready d own beside payload (length payload) = rw e at (ready payload id id_length payload_bytes (get_or loop offset 0)) in
       let t : tag_of d < 256 = rw e at (tagged payload (get_or loop offset 0) id (byte_in loop a offset)) in
       let f = enveloped_made_lem (tag_of d) (identifier_of d own) (payload_made d own beside payload) b m in
@@ -192,11 +192,11 @@ module _ (loop : List ℕ) (a : AllBytes loop) (offset L : ℕ) (st : Stands loo
       )
 
   -- and in the loop: it is the same
-  of_payload_lem : (d : Descriptor) → descriptor_of (get_or loop offset 0) id payload ≡ DescriptorRead.Is d
-      → Short loop (identifier_read (DescriptorRead.Is d) id) (beside_read (DescriptorRead.Is d) payload) (moved_descriptor (offset + 6) d) (offset + (L + 2) - offset)
+  of_payload_lem : (d : Descriptor) → descriptor_of (get_or loop offset 0) id payload ≡ Ok d
+      → Short loop (identifier_read (Ok d) id) (beside_read (Ok d) payload) (moved_descriptor (offset + 6) d) (offset + (L + 2) - offset)
   of_payload_lem d e b m =
-      let own : List ℕ = identifier_read (DescriptorRead.Is d) id in
-      let beside : Beside = beside_read (DescriptorRead.Is d) payload in
+      let own : List ℕ = identifier_read (Ok d) id in
+      let beside : Beside = beside_read (Ok d) payload in
       let there : Descriptor = moved_descriptor (offset + 6) d in
       let w = written_of payload id id_length payload_bytes (get_or loop offset 0) d e (omega (arith, size, st.right)) in
       let h : Handed d own beside payload = w.0 in
@@ -208,19 +208,19 @@ module _ (loop : List ℕ) (a : AllBytes loop) (offset L : ℕ) (st : Stands loo
       let z : w.1.0 ≡ b = made_one w.1.0 b (sym k ∙ m) in
       in_payload d e b (w.1.1 ∙ ap made z)
 
-  of_read : (r : DescriptorRead) → descriptor_of (get_or loop offset 0) id payload ≡ r → (d : Descriptor) → item_at (offset + 6) r ≡ Item.Is d
+  of_read : (r : Result Descriptor Refusal) → descriptor_of (get_or loop offset 0) id payload ≡ r → (d : Descriptor) → item_at (offset + 6) r ≡ Some (Ok d)
       → Short loop (identifier_read r id) (beside_item (item_at (offset + 6) r) payload_again) d (offset + (L + 2) - offset)
-  of_read (DescriptorRead.Is e) f d g =
+  of_read (Ok e) f d g =
       let n : ℕ = offset + (L + 2) - offset in
       let z : moved_descriptor (offset + 6) e ≡ d = is_one (moved_descriptor (offset + 6) e) d g in
-      let b : beside_read (DescriptorRead.Is e) payload ≡ beside_read (DescriptorRead.Is (moved_descriptor (offset + 6) e)) payload_again =
-      ap (beside_read (DescriptorRead.Is e)) again ∙ beside_stays (offset + 6) e payload_again in
-      subst (λ (x : Descriptor). Short loop (identifier_read (DescriptorRead.Is e) id) (beside_read (DescriptorRead.Is (moved_descriptor (offset + 6) e)) payload_again) x n) z
-      (subst (λ (x : Beside). Short loop (identifier_read (DescriptorRead.Is e) id) x (moved_descriptor (offset + 6) e) n) b (of_payload_lem e f))
-  of_read (DescriptorRead.Refused q) f d g = zero_one cc
+      let b : beside_read (Ok e) payload ≡ beside_read (Ok (moved_descriptor (offset + 6) e)) payload_again =
+      ap (beside_read (Ok e)) again ∙ beside_stays (offset + 6) e payload_again in
+      subst (λ (x : Descriptor). Short loop (identifier_read (Ok e) id) (beside_read (Ok (moved_descriptor (offset + 6) e)) payload_again) x n) z
+      (subst (λ (x : Beside). Short loop (identifier_read (Ok e) id) x (moved_descriptor (offset + 6) e) n) b (of_payload_lem e f))
+  of_read (Err q) f d g = zero_one cc
 
 module _ (loop : List ℕ) (a : AllBytes loop) (offset : ℕ) where
-  short_by : {st : Step} → Clause loop offset st → (d : Descriptor) → st.item ≡ Item.Is d
+  short_by : {st : Step} → Clause loop offset st → (d : Descriptor) → st.item ≡ Some (Ok d)
       → Short loop st.identifier (beside_item st.item (take (st.next - (offset + 6)) (drop (offset + 6) loop))) d (st.next - offset)
   unfolding complete_at read_at
   short_by (long h) d e = zero_one cc
@@ -229,7 +229,7 @@ module _ (loop : List ℕ) (a : AllBytes loop) (offset : ℕ) where
   short_by (small L t) d e = zero_one cc
   short_by (entire L t h) d e = of_read loop a offset L t h _ refl d e
 
-  pub item_shorter : (d : Descriptor) → (step_of loop offset).item ≡ Item.Is d → (b : List ℕ)
+  pub item_shorter : (d : Descriptor) → (step_of loop offset).item ≡ Some (Ok d) → (b : List ℕ)
       → descriptor_made d (step_of loop offset).identifier (reading_of loop offset).beside loop ≡ made b → AllBytes b × (length b ≤ (step_of loop offset).next - offset)
   unfolding reading_of
   item_shorter d e b m = short_by (clause loop offset) d e b m

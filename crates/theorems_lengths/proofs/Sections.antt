@@ -22,7 +22,6 @@ use Rattle.descriptor_loop.proofs.Lists.{walked}
 use Rattle.descriptor_loop.proofs.Places.{all_into}
 use Rattle.descriptor_loop.specs.Cover.{joined, Follow, done, follows}
 use Rattle.descriptor_loop.specs.Items.{reading_of, Listed, listed, items_of}
-use Rattle.descriptor_loop.specs.declared.Item.{Item}
 use Rattle.canonical_form.specs.Descriptor.{canonical_loop}
 use Rattle.descriptor_round_trips.specs.Trips.{Handed}
 use Rattle.loop_round_trips.proofs.Theorems.{loop_write_read}
@@ -30,7 +29,6 @@ use Rattle.canonical_form.specs.Same.{Given, Pairs, over, pair, ItemBack, SameIt
 use Rattle.loop_round_trips.specs.Loops.{given_made}
 use Rattle.section.specs.Section.{command_bytes, loop_length, loop_place, section_of, section_length, loop_in}
 use Rattle.section.specs.declared.Section.{Section}
-use Rattle.section.specs.declared.SectionRead.{SectionRead}
 use Rattle.section_writer.proofs.Frames.{length_frame}
 use Rattle.canonical_form.specs.Section.{canonical_section}
 use Rattle.section_writer.specs.Frame.{frame}
@@ -56,6 +54,7 @@ use Rattle.upid.specs.Cover.{All, none, more}
 use Rattle.theorems_lengths.specs.Lengths.{Readable, given_of, ItemAs, WrittenShorter}
 use Rattle.theorems_lengths.proofs.Commands.{command_shorter}
 use Rattle.theorems_lengths.proofs.Items.{bytes_both, item_shorter}
+use Rattle.std.proofs.Common.{Ok, Some}
 
 -- ---- one item
 
@@ -68,7 +67,7 @@ record One (loop : List ℕ) (y : Listed) (d : Descriptor) : Type 0 where
   item : ItemAs loop y bytes
 
 abbrev Makes : List ℕ → Listed → Type 0
-Makes loop y = (d : Descriptor) → y.step.item ≡ Item.Is d → One loop y d
+Makes loop y = (d : Descriptor) → y.step.item ≡ Some (Ok d) → One loop y d
 
 makes_at : (loop : List ℕ) → AllBytes loop → (o : ℕ) → Makes loop (listed loop o)
 unfolding reading_of
@@ -87,7 +86,7 @@ makes_at loop a o d e =
 
 -- g is what the writer is handed of the item y
 abbrev Gives : List ℕ → Listed → Given → Type 0
-Gives loop y g = (d : Descriptor) × (y.step.item ≡ Item.Is d) × (g ≡ given_of loop y d)
+Gives loop y g = (d : Descriptor) × (y.step.item ≡ Some (Ok d)) × (g ≡ given_of loop y d)
 
 record Rewrote (loop : List ℕ) (ys : List Listed) : Type 0 where
   given : List Given
@@ -133,7 +132,7 @@ same_items {new} (pair {x = x} b bs) (pair g gs) = pair (record { that = g.0; is
 made_one : (b c : List ℕ) → made b ≡ made c → b ≡ c
 made_one b c e = cc
 
-module _ (s : List ℕ) (x : Section) (a : AllBytes s) (e : section_of s ≡ SectionRead.Is x) where
+module _ (s : List ℕ) (x : Section) (a : AllBytes s) (e : section_of s ≡ Ok x) where
   abbrev loop : List ℕ
   loop = loop_in s x
 
@@ -218,7 +217,7 @@ pub only_such : (s : List ℕ) (x : Section) → WrittenShorter s x → ((i : Sp
 only_such s x w = (has_127 x.command (components_of (command_bytes s)) s (command_bytes w.bytes) w.around.command, all_readable w.items)
 
 -- a canonical section is such
-pub canonical_such : (s : List ℕ) (x : Section) → AllBytes s → section_of s ≡ SectionRead.Is x → canonical_section s ≡ true
+pub canonical_such : (s : List ℕ) (x : Section) → AllBytes s → section_of s ≡ Ok x → canonical_section s ≡ true
     → ((i : SpliceInsert) → x.command ≡ SpliceCommand.SpliceInsert i → i.reserved ≡ 127) × All Readable (items_of (loop_in s x))
 canonical_such s x a e c =
     let b = section_reads_as x.header x.command (components_of (command_bytes s)) s (loop_in s x) (places_255 (command_bytes s)) (count_byte s x a e) a (all_viewed s x.descriptors a) s (section_back s x a e c) in (

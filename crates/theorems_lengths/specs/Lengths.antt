@@ -1,11 +1,10 @@
 -- What it means that a section is written again of all that was read of it, in no more bytes than it has.
-use Rattle.std.specs.Prelude.{ℕ, ◌≤◌, true, List, ◌≡◌, length}
+use Rattle.std.specs.Prelude.{ℕ, ◌≤◌, true, List, ◌≡◌, length, Ok, Some}
 use Rattle.command.specs.Command.{components_of, type_of}
 use Rattle.command_measure.specs.Made.{command_made}
 use Rattle.descriptor.specs.declared.Descriptor.{Descriptor}
 use Rattle.descriptor_loop.specs.Cover.{joined}
 use Rattle.descriptor_loop.specs.Items.{reading_of, Listed, items_of}
-use Rattle.descriptor_loop.specs.declared.Item.{Item}
 use Rattle.canonical_form.specs.Descriptor.{canonical_descriptor}
 use Rattle.canonical_form.specs.Same.{Given, Pairs, SameItem}
 use Rattle.loop_round_trips.specs.Loops.{given_made}
@@ -18,7 +17,7 @@ use Rattle.theorems_writer.specs.Making.{SectionBytes}
 -- an item that is read, and not refused
 pub record Readable (y : Listed) : Type 0 where
   pub descriptor : Descriptor
-  pub is : y.step.item ≡ Item.Is descriptor
+  pub is : y.step.item ≡ Some (Ok descriptor)
 
 -- what the descriptor writer is handed of an item that is read as d: d, what stands beside it, and the loop that its views refer to
 abbrev pub given_of : List ℕ → Listed → Descriptor → Given
@@ -27,7 +26,7 @@ given_of loop y d = record { descriptor = d; identifier = y.step.identifier; bes
 -- an item that is read is written as b: a canonical descriptor, of no more bytes than the item uses
 pub record ItemAs (loop : List ℕ) (y : Listed) (b : List ℕ) : Type 0 where
   pub descriptor : Descriptor
-  pub is : y.step.item ≡ Item.Is descriptor
+  pub is : y.step.item ≡ Some (Ok descriptor)
   pub writes : given_made (given_of loop y descriptor) ≡ made b
   pub form : canonical_descriptor b ≡ true
   pub shorter : length b ≤ y.used

@@ -18,12 +18,10 @@ use Rattle.upid.specs.Cover.{All, none, more}
 use Rattle.upid.specs.Upid as upid
 use Rattle.upid.specs.Upid.{upid_of, check_of, reported_of, part_view}
 use Rattle.upid.specs.declared.Part.{Part}
-use Rattle.upid.specs.declared.UpidRead.TheVariants.{Fine}
 use Rattle.descriptor.specs.Descriptor.{reported_upid}
 use Rattle.descriptor.specs.Segmentation.{segmentation}
 use Rattle.descriptor.specs.Full.{beside_of, identifier_read}
 use Rattle.descriptor.specs.declared.Descriptor.{Descriptor}
-use Rattle.descriptor.specs.declared.DescriptorRead.{DescriptorRead}
 use Rattle.descriptor.specs.declared.segmentation.DescriptorDetail.{DescriptorDetail}
 use Rattle.descriptor.specs.declared.segmentation.SegmentationUpid.{SegmentationUpid}
 use Rattle.upid.proofs.Reported.{mid_is_written, eidr_is_written}
@@ -36,10 +34,11 @@ use Rattle.descriptor_loop.specs.declared.Step.{Step}
 use Rattle.table.proofs.Lists.{run_of_run}
 use Rattle.upid.specs.Private as upid_laws
 use Rattle.upid.specs.Private.{Accepted}
-use Rattle.descriptor_loop.specs.declared.Item.{Item}
 use Rattle.theorems_reader.specs.Identifiers.{Identifier, OneRun, in_lent, detail_upids, upids_of, upid_start, besides_of, Announced, Unsplit}
 use Rattle.theorems_reader.proofs.Runs.{viewed_is, viewed_inside, length_viewed, length_run, lent_run, get_d_run}
 use Rattle.theorems_reader.proofs.Upids.{upids_read, Source, sources}
+use Rattle.std.proofs.Common.{Ok, Err, Some, Result}
+use Rattle.upid.specs.declared.Refusal.{Refusal}
 
 -- ---- the UPIDs of an item
 
@@ -47,16 +46,16 @@ detail_upids_lem : (base : ℕ) (d : DescriptorDetail) → detail_upids (moved_d
 detail_upids_lem base DescriptorDetail.Cancel = refl
 detail_upids_lem base (DescriptorDetail.Active i) = refl
 
-descriptor_upids : (base : ℕ) (d : Descriptor) → upids_of (Item.Is (moved_descriptor base d)) ≡ map (moved_upid base) (upids_of (Item.Is d))
+descriptor_upids : (base : ℕ) (d : Descriptor) → upids_of (Some (Ok (moved_descriptor base d))) ≡ map (moved_upid base) (upids_of (Some (Ok d)))
 descriptor_upids base (Descriptor.Avail x) = refl
 descriptor_upids base (Descriptor.Dtmf x) = refl
 descriptor_upids base (Descriptor.Segmentation x) = detail_upids_lem base x.descriptor_detail
 descriptor_upids base (Descriptor.Time x) = refl
 descriptor_upids base (Descriptor.Reserved tag bytes) = refl
 
-item_upids : (base : ℕ) (r : DescriptorRead) → upids_of (item_at base r) ≡ map (moved_upid base) (upids_read r)
-item_upids base (DescriptorRead.Is d) = descriptor_upids base d
-item_upids base (DescriptorRead.Refused r) = refl
+item_upids : (base : ℕ) (r : Result Descriptor Refusal) → upids_of (item_at base r) ≡ map (moved_upid base) (upids_read r)
+item_upids base (Ok d) = descriptor_upids base d
+item_upids base (Err r) = refl
 
 -- the UPID u of the item between two offsets is one of its payload's, moved to the loop
 pub record Found (loop : List ℕ) (offset next : ℕ) (u : SegmentationUpid) : Type 0 where
@@ -94,7 +93,7 @@ module _ (s : List ℕ) (i : Identifier) (r : OneRun s i) where
         len = a.len ∙ get_d_run s i r (p.start - 1) (omega (arith, n, a.inside, a.behind)) ∙ ap (λ (j : ℕ). get_or s j 0) l;
       }
 
-  pub unsplit : check_of 13 i.bytes ≡ Fine 13 → Unsplit s i
+  pub unsplit : check_of 13 i.bytes ≡ Ok 13 → Unsplit s i
   unfolding upid_of
   unsplit e =
       let ok : Accepted (check_of 13 i.bytes) = rw e tt in
@@ -110,12 +109,12 @@ module _ (s : List ℕ) (i : Identifier) (r : OneRun s i) where
 -- ---- a UPID that is found in an item
 
 -- a MID has bytes
-some_bytes : (bytes : List ℕ) → check_of 13 bytes ≡ Fine 13 → 1 ≤ length bytes
+some_bytes : (bytes : List ℕ) → check_of 13 bytes ≡ Ok 13 → 1 ≤ length bytes
 unfolding check_of
 some_bytes [] e = absurd (let z : ◌≡◌ {A = ℕ} 0 13 = cc in omega arith)
 some_bytes (b ∷ bs) e = omega arith
 
-mid_checked : (k : ℕ) (bytes : List ℕ) → check_of k bytes ≡ Fine 13 → check_of 13 bytes ≡ Fine 13
+mid_checked : (k : ℕ) (bytes : List ℕ) → check_of k bytes ≡ Ok 13 → check_of 13 bytes ≡ Ok 13
 mid_checked k bytes e = ap (λ (j : ℕ). check_of j bytes) (sym (mid_is_written k bytes e)) ∙ e
 
 -- the view of a MID, moved
@@ -144,12 +143,12 @@ module _ (s : List ℕ) (i : Identifier) (r : OneRun s i) (offset next : ℕ) (u
   abbrev written : SegmentationUpid
   written = f.from.written
 
-  was : (q : ℕ) → u.upid_type ≡ q → check_of written.upid_type (viewed inner written.bytes) ≡ Fine q
-  was q k = f.from.checked ∙ ap Fine (sym (type_stays (offset + 6) f.source) ∙ sym (ap (λ (u : SegmentationUpid). u.upid_type) f.is) ∙ k)
+  was : (q : ℕ) → u.upid_type ≡ q → check_of written.upid_type (viewed inner written.bytes) ≡ Ok q
+  was q k = f.from.checked ∙ ap Ok (sym (type_stays (offset + 6) f.source) ∙ sym (ap (λ (u : SegmentationUpid). u.upid_type) f.is) ∙ k)
 
   pub mid_of : u.upid_type ≡ 13 → Unsplit s (in_lent i.start i.bytes u.bytes)
   mid_of k =
-      let e : check_of 13 (viewed inner written.bytes) ≡ Fine 13 = mid_checked written.upid_type (viewed inner written.bytes) (was 13 k) in
+      let e : check_of 13 (viewed inner written.bytes) ≡ Ok 13 = mid_checked written.upid_type (viewed inner written.bytes) (was 13 k) in
       let h : written.bytes.at + written.bytes.len ≤ length inner = viewed_inside inner written.bytes (some_bytes _ e) in
       let n : length inner ≡ next - offset - 6 = size i.bytes offset next f.six f.there in
       let l : length i.bytes ≡ i.len = length_run s i r in
@@ -190,17 +189,17 @@ module _ (s : List ℕ) (i : Identifier) (r : OneRun s i) where
   abbrev four : ℕ → List ℕ
   four offset = take 4 (drop (offset + 2) i.bytes)
 
-  beside_read_lem : (base offset : ℕ) → offset + 6 ≤ length i.bytes → (d : DescriptorRead)
+  beside_read_lem : (base offset : ℕ) → offset + 6 ≤ length i.bytes → (d : Result Descriptor Refusal)
       → All (OneRun s) (besides_of i.start offset (identifier_read d (four offset)) (item_at base d))
-  beside_read_lem base offset h (DescriptorRead.Is (Descriptor.Avail x)) = none
-  beside_read_lem base offset h (DescriptorRead.Is (Descriptor.Dtmf x)) = none
-  beside_read_lem base offset h (DescriptorRead.Is (Descriptor.Segmentation x)) = none
-  beside_read_lem base offset h (DescriptorRead.Is (Descriptor.Time x)) = none
-  beside_read_lem base offset h (DescriptorRead.Is (Descriptor.Reserved tag v)) =
+  beside_read_lem base offset h (Ok (Descriptor.Avail x)) = none
+  beside_read_lem base offset h (Ok (Descriptor.Dtmf x)) = none
+  beside_read_lem base offset h (Ok (Descriptor.Segmentation x)) = none
+  beside_read_lem base offset h (Ok (Descriptor.Time x)) = none
+  beside_read_lem base offset h (Ok (Descriptor.Reserved tag v)) =
       let l : length i.bytes ≡ i.len = length_run s i r in
       let run : OneRun s (in_lent i.start i.bytes (record { at = offset + 2; len = 4 })) = lent_run s i r (record { at = offset + 2; len = 4 }) (omega arith) in
       more (record { inside = run.inside; run = sym (viewed_is i.bytes (record { at = offset + 2; len = 4 }) (omega arith)) ∙ run.run }) none
-  beside_read_lem base offset h (DescriptorRead.Refused q) = none
+  beside_read_lem base offset h (Err q) = none
 
   pub beside_runs : {offset : ℕ} {st : Step} → Clause i.bytes offset st → All (OneRun s) (besides_of i.start offset st.identifier st.item)
   unfolding complete_at

@@ -16,7 +16,6 @@ use Rattle.descriptor.specs.declared.segmentation.SegmentationDetail.{Segmentati
 use Rattle.descriptor.specs.declared.segmentation.SegmentationUpid.{SegmentationUpid}
 use Rattle.descriptor_loop.specs.Items.{Listed, items_of}
 use Rattle.descriptor_loop.specs.Place.{views_of}
-use Rattle.descriptor_loop.specs.declared.Item.{Item}
 use Rattle.descriptor_loop.specs.declared.ItemRefusal.{ItemRefusal}
 use Rattle.section.specs.declared.Section.{Section}
 use Rattle.table.specs.Lent.{viewed}
@@ -27,6 +26,7 @@ use Rattle.upid.specs.declared.Refusal.{Refusal}
 use Rattle.theorems_reader.specs.Identifiers.{Identifier, in_section, in_lent, upids_of, parts_of, parts_read, eidr_of, besides_of, each, identifiers_of_item, identifiers_of}
 use Rattle.section.specs.Section.{loop_in}
 use Rattle.theorems_reader.specs.Listing.{ListsUpid, ListsItem, ListsCommand}
+use Rattle.std.proofs.Common.{Ok, Err, Some, Option, Result}
 
 module _ (ids : List Identifier) where
   -- all of a list are among the identifiers
@@ -54,7 +54,7 @@ module _ (ids : List Identifier) where
     abbrev of_upid : SegmentationUpid → List Identifier
     of_upid u = parts_of base loop u ++ pick (eqb u.upid_type 10) (eidr_of base loop y ∷ []) []
 
-    abbrev of_item : Item → List Identifier
+    abbrev of_item : Option (Result Descriptor ItemRefusal) → List Identifier
     of_item it = map (in_lent base loop) (views_of it) ++ (each of_upid (upids_of it) ++ besides_of base y.offset y.step.identifier it)
 
     upid_lists : (u : SegmentationUpid) → Into (map (in_lent base loop) (upid_views u)) → Into (of_upid u) → ListsUpid ids base loop y u
@@ -65,7 +65,7 @@ module _ (ids : List Identifier) where
           parts = map_lists (λ (p : Part). in_lent (base + u.bytes.at) (viewed loop u.bytes) (part_view p)) (parts_read u.upid_type (viewed loop u.bytes)) (into_left (parts_of base loop u) _ g);
         }
 
-    detail_lists : (x : SegmentationDescriptor) (i : SegmentationDetail) → x.descriptor_detail ≡ DescriptorDetail.Active i → Into (of_item (Item.Is (Descriptor.Segmentation x)))
+    detail_lists : (x : SegmentationDescriptor) (i : SegmentationDetail) → x.descriptor_detail ≡ DescriptorDetail.Active i → Into (of_item (Some (Ok (Descriptor.Segmentation x))))
         → ListsUpid ids base loop y i.segmentation_upid
     detail_lists x i e f =
         let g = rw e at f in
@@ -76,16 +76,16 @@ module _ (ids : List Identifier) where
     item_lists : Into (of_item y.step.item) → ListsItem ids base loop y
     item_lists f =
         record {
-          dtmf = λ d e. into_first (in_lent base loop d.dtmf_chars) _ (seen (Item.Is (Descriptor.Dtmf d)) e);
-          upid = λ d i e g. detail_lists d i g (seen (Item.Is (Descriptor.Segmentation d)) e);
+          dtmf = λ d e. into_first (in_lent base loop d.dtmf_chars) _ (seen (Some (Ok (Descriptor.Dtmf d))) e);
+          upid = λ d i e g. detail_lists d i g (seen (Some (Ok (Descriptor.Segmentation d))) e);
           reserved = λ tag v e.
-              let g : Into (of_item (Item.Is (Descriptor.Reserved tag v))) = seen (Item.Is (Descriptor.Reserved tag v)) e in
+              let g : Into (of_item (Some (Ok (Descriptor.Reserved tag v)))) = seen (Some (Ok (Descriptor.Reserved tag v))) e in
               (into_first (in_lent base loop v) _ g, into_first _ [] (λ i m. g i (Memᴰ.tail m)));
-          text = λ k v e. into_first (in_lent base loop v) _ (seen (Item.Refused (ItemRefusal.Other (Refusal.InvalidUpidContent k v))) e);
+          text = λ k v e. into_first (in_lent base loop v) _ (seen (Some (Err (ItemRefusal.Other (Refusal.InvalidUpidContent k v)))) e);
         }
       where
-        seen : (it : Item) → y.step.item ≡ it → Into (of_item it)
-        seen it e = subst (λ (z : Item). Into (of_item z)) e f
+        seen : (it : Option (Result Descriptor ItemRefusal)) → y.step.item ≡ it → Into (of_item it)
+        seen it e = subst (λ (z : Option (Result Descriptor ItemRefusal)). Into (of_item z)) e f
 
 -- ---- of a section
 

@@ -8,7 +8,6 @@ use lib.Dec.{eqb}
 use lib.ListN.{length, drop, length-take, length-drop}
 use borrow.Author.Tests.{eqb-true, eqb-false}
 use Rattle.command.specs.Command.{command_of, of_private}
-use Rattle.command.specs.declared.CommandRead.{CommandRead}
 use Rattle.command.specs.declared.SpliceCommand.{SpliceCommand}
 use Rattle.descriptor.specs.declared.segmentation.SegmentationUpid.{SegmentationUpid}
 use Rattle.descriptor_loop.proofs.Lists.{Walked, stop, step, walked}
@@ -19,7 +18,6 @@ use Rattle.descriptor_loop.specs.Cover.{Ends, TakesRest, Covered, times}
 use Rattle.descriptor_loop.specs.Items.{step_of, Listed, listed, items_of}
 use Rattle.section.specs.Section.{command_length, command_bytes, loop_length, loop_place, moved, section_of, loop_in}
 use Rattle.section.specs.declared.Section.{Section}
-use Rattle.section.specs.declared.SectionRead.{SectionRead}
 use Rattle.table.specs.Lent.{viewed}
 use Rattle.table.specs.declared.View.{View}
 use Rattle.upid.proofs.Theorems.{only_a_mid_has_parts}
@@ -28,6 +26,7 @@ use Rattle.theorems_reader.specs.Identifiers.{Identifier, OneRun, in_section, in
 use Rattle.theorems_reader.proofs.Framed.{laid, private_in}
 use Rattle.theorems_reader.proofs.Items.{Found, found, mid_of, eidr_of_lem, beside_runs}
 use Rattle.theorems_reader.proofs.Runs.{length_run, section_run, lent_run}
+use Rattle.std.proofs.Common.{Ok}
 
 -- ---- lists
 
@@ -82,7 +81,7 @@ module _ (s : List ℕ) (i : Identifier) (r : OneRun s i) (fits : length i.bytes
 
 -- ---- of a section
 
-module _ (s : List ℕ) (x : Section) (e : section_of s ≡ SectionRead.Is x) where
+module _ (s : List ℕ) (x : Section) (e : section_of s ≡ Ok x) where
   loop_size : (x.descriptors.at ≡ 16 + command_length s) × (x.descriptors.len ≡ loop_length s)
   unfolding loop_place
   loop_size = (ap (λ (v : View). v.at) (laid s x e).place, ap (λ (v : View). v.len) (laid s x e).place)
@@ -93,7 +92,7 @@ module _ (s : List ℕ) (x : Section) (e : section_of s ≡ SectionRead.Is x) wh
   pub loop_short : length (loop_in s x) ≤ 4076
   loop_short = omega (arith, length_run s (in_section s x.descriptors) loop_run, loop_size.1, (laid s x e).fits, (laid s x e).short)
 
-  command_runs : (k : ℕ) (c : SpliceCommand) → 14 + command_length s ≤ length s → command_of k (command_bytes s) ≡ CommandRead.Is c → All (OneRun s) (of_private (λ p. in_section s p.private_bytes ∷ []) [] (moved 14 c))
+  command_runs : (k : ℕ) (c : SpliceCommand) → 14 + command_length s ≤ length s → command_of k (command_bytes s) ≡ Ok c → All (OneRun s) (of_private (λ p. in_section s p.private_bytes ∷ []) [] (moved 14 c))
   unfolding moved command_bytes
   command_runs k (SpliceCommand.PrivateCommand p) h f =
       let n : p.private_bytes.at + p.private_bytes.len ≤ length (command_bytes s) = private_in (command_bytes s) k p f in

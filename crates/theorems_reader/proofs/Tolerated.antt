@@ -11,7 +11,6 @@ use borrow.Author.Tests.{lt-ltb}
 use Rattle.command.specs.Command.{read, command_of}
 use Rattle.command.specs.Insert.{WithComponents, blank, time_unless, component, moded, ending, active, insert}
 use Rattle.splice_time.specs.Break.{break_duration}
-use Rattle.command.specs.declared.CommandRead.{CommandRead}
 use Rattle.command.specs.declared.SpliceCommand.{SpliceCommand}
 use Rattle.command.specs.declared.insert.SpliceMode.{SpliceMode}
 use Rattle.crc.specs.Crc.{crc_of}
@@ -20,9 +19,7 @@ use Rattle.header.specs.Header.{splice_header, header_read, header_of}
 use Rattle.splice_time.specs.Time.{splice_time}
 use Rattle.section.proofs.Framing.{framed}
 use Rattle.section.specs.Section.{command_length, command_type, command_bytes, room_after, loop_length, loop_place, frame_in, frame_of, moved_read, through, section_of, number_of}
-use Rattle.section.specs.declared.FrameRead.{FrameRead}
 use Rattle.section.specs.declared.Refusal.{Refusal}
-use Rattle.section.specs.declared.SectionRead.{SectionRead}
 use Rattle.table.proofs.Bits.{length_bits, bits_append}
 use Rattle.table.proofs.Lists.{zero_one}
 use Rattle.table.proofs.Longer.{Blind, tolerates, blind_inside, blind_pick, blind_list}
@@ -30,6 +27,9 @@ use Rattle.table.specs.Bits.{bits_of_num, bits_of, num, field}
 use Rattle.table.specs.Table.{Table, number, bit, reserved, list, Answer, got, short, parse}
 use Rattle.upid.proofs.Laws.{by_cases}
 use Rattle.theorems_reader.specs.Around.{Around}
+use Rattle.std.proofs.Common.{Ok, Err, Result}
+use Rattle.section.specs.declared.Frame.{Frame}
+use Rattle.section.specs.declared.Section.{Section}
 
 -- ---- section_length: the last bits of byte 1, and byte 2
 
@@ -54,14 +54,14 @@ module _ (s t : List ℕ) (size : length s ≡ length t) (table : get_or s 0 0 �
 
   read_alike : section_of s ≡ section_of t
   unfolding section_of
-  read_alike = go (frame_of s) refl ∙ ap (λ (f : FrameRead). through f (header_of (drop 3 t)) (moved_read (command_of (command_type t) (command_bytes t)))) same_frame
+  read_alike = go (frame_of s) refl ∙ ap (λ (f : Result Frame Refusal). through f (header_of (drop 3 t)) (moved_read (command_of (command_type t) (command_bytes t)))) same_frame
     where
-      go : (f : FrameRead) → frame_of s ≡ f
+      go : (f : Result Frame Refusal) → frame_of s ≡ f
           → through f (header_of (drop 3 s)) (moved_read (command_of (command_type s) (command_bytes s))) ≡ through f (header_of (drop 3 t)) (moved_read (command_of (command_type t) (command_bytes t)))
-      go (FrameRead.Is v) e =
+      go (Ok v) e =
           let w = framed s v (sym e) in
           rw (header w.long, type w.long, payload (omega (arith, w.fits)))
-      go (FrameRead.Refused x) e = refl
+      go (Err x) e = refl
 
 beyond : (c a b : ℕ) (rest : List ℕ) (n w : ℕ) → field (bits_of (c ∷ a ∷ b ∷ rest)) (24 + n) w ≡ field (bits_of rest) n w
 beyond c a b rest n w = ap (λ (l : List ℕ). num 0 (take w l)) (drop-append-add (bits_of_num 8 c ++ bits_of_num 8 a ++ bits_of_num 8 b) (bits_of rest) n)
@@ -146,20 +146,20 @@ length_untested table others s t o p =
     ap section_of o.is ∙ same ∙ ap section_of (sym p.is)
 
 -- ---- the numbers of a section's refusals
-pub eleven : (r : SectionRead) → number_of r ≤ 11
+pub eleven : (r : Result Section Refusal) → number_of r ≤ 11
 unfolding number_of
-eleven (SectionRead.Is x) = omega arith
-eleven (SectionRead.Refused Refusal.SectionTooShort) = omega arith
-eleven (SectionRead.Refused Refusal.InputTooLong) = omega arith
-eleven (SectionRead.Refused Refusal.OtherTable) = omega arith
-eleven (SectionRead.Refused Refusal.WrongCrc) = omega arith
-eleven (SectionRead.Refused Refusal.NoHeader) = omega arith
-eleven (SectionRead.Refused Refusal.Encrypted) = omega arith
-eleven (SectionRead.Refused Refusal.CommandTooLong) = omega arith
-eleven (SectionRead.Refused Refusal.NoLoopLength) = omega arith
-eleven (SectionRead.Refused Refusal.LoopTooLong) = omega arith
-eleven (SectionRead.Refused Refusal.UnknownCommand) = omega arith
-eleven (SectionRead.Refused Refusal.MalformedCommand) = omega arith
+eleven (Ok x) = omega arith
+eleven (Err Refusal.SectionTooShort) = omega arith
+eleven (Err Refusal.InputTooLong) = omega arith
+eleven (Err Refusal.OtherTable) = omega arith
+eleven (Err Refusal.WrongCrc) = omega arith
+eleven (Err Refusal.NoHeader) = omega arith
+eleven (Err Refusal.Encrypted) = omega arith
+eleven (Err Refusal.CommandTooLong) = omega arith
+eleven (Err Refusal.NoLoopLength) = omega arith
+eleven (Err Refusal.LoopTooLong) = omega arith
+eleven (Err Refusal.UnknownCommand) = omega arith
+eleven (Err Refusal.MalformedCommand) = omega arith
 
 -- ---- bytes behind the last field of a command
 blind_time : Blind splice_time
@@ -197,17 +197,17 @@ unfolding insert number bit
 blind_insert = λ id cancel kept. blind_pick (eqb cancel 1) _ _ tt (blind_inside active _ _ blind_active λ a. tt)
 
 -- ---- commands
-read_on : {X : Type 0} (f : X → SpliceCommand) (t : Table X) → Blind t → (s more : List ℕ) (c : SpliceCommand) → read f (parse t (bits_of s) 0) ≡ CommandRead.Is c → read f (parse t (bits_of (s ++ more)) 0) ≡ CommandRead.Is c
+read_on : {X : Type 0} (f : X → SpliceCommand) (t : Table X) → Blind t → (s more : List ℕ) (c : SpliceCommand) → read f (parse t (bits_of s) 0) ≡ Ok c → read f (parse t (bits_of (s ++ more)) 0) ≡ Ok c
 read_on {X} f t h s more c e = go (parse t (bits_of s) 0) refl e
   where
-    go : (r : Answer X) → parse t (bits_of s) 0 ≡ r → read f r ≡ CommandRead.Is c → read f (parse t (bits_of (s ++ more)) 0) ≡ CommandRead.Is c
+    go : (r : Answer X) → parse t (bits_of s) 0 ≡ r → read f r ≡ Ok c → read f (parse t (bits_of (s ++ more)) 0) ≡ Ok c
     go (got x m) i e = rw (tolerates t h s more 0 x m i) e
     go (short expected actual) i e = zero_one cc
 
-pub insert_on : (s more : List ℕ) (c : SpliceCommand) → command_of 0x05 s ≡ CommandRead.Is c → command_of 0x05 (s ++ more) ≡ CommandRead.Is c
+pub insert_on : (s more : List ℕ) (c : SpliceCommand) → command_of 0x05 s ≡ Ok c → command_of 0x05 (s ++ more) ≡ Ok c
 unfolding command_of
 insert_on s more c e = read_on (λ x. SpliceCommand.SpliceInsert x.value) insert blind_insert s more c e
 
-pub time_signal_on : (s more : List ℕ) (c : SpliceCommand) → command_of 0x06 s ≡ CommandRead.Is c → command_of 0x06 (s ++ more) ≡ CommandRead.Is c
+pub time_signal_on : (s more : List ℕ) (c : SpliceCommand) → command_of 0x06 s ≡ Ok c → command_of 0x06 (s ++ more) ≡ Ok c
 unfolding command_of
 time_signal_on s more c e = read_on SpliceCommand.TimeSignal splice_time blind_time s more c e

@@ -14,51 +14,50 @@ use Rattle.table.specs.declared.View.{View}
 use Rattle.upid.specs.Cover.{All, none, more}
 use Rattle.upid.specs.Upid as upid
 use Rattle.upid.specs.Upid.{check_of}
-use Rattle.upid.specs.declared.UpidRead.{UpidRead}
-use Rattle.upid.specs.declared.UpidRead.TheVariants.{Fine, Refused}
 use Rattle.descriptor.specs.Descriptor.{◌and_then◌, reported_upid, if_fine, avail_of, dtmf_of, time_of, reserved_of, active_with, active_of, segmentation_of, is_cuei, descriptor_of}
 use Rattle.descriptor.specs.Plain.{avail, dtmf, time, private_table}
 use Rattle.descriptor.specs.Segmentation.{ListedFront, Head, head, front, back, active_from, segmentation}
 use Rattle.descriptor.specs.Full.{beside_in, beside_of}
-use Rattle.descriptor.specs.declared.DescriptorRead.{DescriptorRead}
 use Rattle.descriptor.specs.declared.segmentation.DescriptorDetail.{DescriptorDetail}
 use Rattle.descriptor.specs.declared.segmentation.SegmentationUpid.{SegmentationUpid}
-use Rattle.descriptor_loop.specs.declared.Item.{Item}
 use Rattle.theorems_reader.specs.Identifiers.{upid_start, upids_of}
+use Rattle.std.proofs.Common.{Ok, Err, Some, Result}
+use Rattle.upid.specs.declared.Refusal.{Refusal}
+use Rattle.descriptor.specs.declared.Descriptor.{Descriptor}
 
 -- ---- each UPID of a reading
 
-abbrev pub upids_read : DescriptorRead → List SegmentationUpid
-upids_read (DescriptorRead.Is d) = upids_of (Item.Is d)
-upids_read (DescriptorRead.Refused r) = []
+abbrev pub upids_read : Result Descriptor Refusal → List SegmentationUpid
+upids_read (Ok d) = upids_of (Some (Ok d))
+upids_read (Err r) = []
 
 -- the UPID u of a payload's reading is this one, which is written there and was checked; and what stands beside it
 pub record Source (s : List ℕ) (u : SegmentationUpid) : Type 0 where
   pub written : SegmentationUpid
-  pub checked : check_of written.upid_type (viewed s written.bytes) ≡ Fine u.upid_type
+  pub checked : check_of written.upid_type (viewed s written.bytes) ≡ Ok u.upid_type
   pub is : u ≡ reported_upid u.upid_type written.bytes
   pub beside : (beside_of s).eidr ≡ upid.eidr_of written.upid_type (viewed s written.bytes)
   pub start : upid_start (parse segmentation (bits_of s) 0) ≡ written.bytes.at
 
 module _ (s : List ℕ) where
-  abbrev Every : DescriptorRead → Type 0
+  abbrev Every : Result Descriptor Refusal → Type 0
   Every r = All (Source s) (upids_read r)
 
-  picked : (t : Bool) (a b : DescriptorRead) → (t ≡ true → Every a) → (t ≡ false → Every b) → Every (pick t a b)
+  picked : (t : Bool) (a b : Result Descriptor Refusal) → (t ≡ true → Every a) → (t ≡ false → Every b) → Every (pick t a b)
   picked true a b p q = p refl
   picked false a b p q = q refl
 
-  and_then_lem : {X : Type 0} (a : Answer X) (k : X → ℕ → DescriptorRead) → ((x : X) (m : ℕ) → a ≡ got x m → Every (k x m)) → Every (a and_then k)
+  and_then_lem : {X : Type 0} (a : Answer X) (k : X → ℕ → Result Descriptor Refusal) → ((x : X) (m : ℕ) → a ≡ got x m → Every (k x m)) → Every (a and_then k)
   and_then_lem (got x m) k f = f x m refl
   and_then_lem (short expected actual) k f = none
 
-  if_fine_lem : (c : UpidRead) (v : View) (k : SegmentationUpid → DescriptorRead) → ((q : ℕ) → c ≡ Fine q → Every (k (reported_upid q v))) → Every (if_fine c v k)
-  if_fine_lem (Fine q) v k f = f q refl
-  if_fine_lem (Refused r) v k f = none
+  if_fine_lem : (c : Result ℕ Refusal) (v : View) (k : SegmentationUpid → Result Descriptor Refusal) → ((q : ℕ) → c ≡ Ok q → Every (k (reported_upid q v))) → Every (if_fine c v k)
+  if_fine_lem (Ok q) v k f = f q refl
+  if_fine_lem (Err r) v k f = none
 
   module _ (h : Head) (m : ℕ) (eh : parse head (bits_of s) 0 ≡ got h m) (off : h.cancel ≡ false) where
     source : (f : ListedFront) (m₁ : ℕ) (b : _) (m₂ q : ℕ) → parse front (bits_of s) m ≡ got f m₁ → parse back (bits_of s) m₁ ≡ got b m₂
-        → check_of f.front.segmentation_upid.upid_type (viewed s f.front.segmentation_upid.bytes) ≡ Fine q → Source s (reported_upid q f.front.segmentation_upid.bytes)
+        → check_of f.front.segmentation_upid.upid_type (viewed s f.front.segmentation_upid.bytes) ≡ Ok q → Source s (reported_upid q f.front.segmentation_upid.bytes)
     unfolding segmentation beside_of beside_in
     source f m₁ b m₂ q ef eb ec =
         let w : SegmentationUpid = f.front.segmentation_upid in

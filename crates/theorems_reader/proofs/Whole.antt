@@ -12,7 +12,6 @@ use lib.ListN.{length, take, drop, get_or, length-take, length-drop}
 use borrow.Author.Tests.{eqb-true, eqb-false, ne_eqb}
 use Rattle.command.specs.Command.{private, read, command_of}
 use Rattle.command.specs.Insert.{insert}
-use Rattle.command.specs.declared.CommandRead.{CommandRead}
 use Rattle.command.specs.declared.Private.{Private}
 use Rattle.command.specs.declared.SpliceCommand.{SpliceCommand}
 use Rattle.splice_time.specs.Time.{splice_time}
@@ -28,14 +27,12 @@ use Rattle.upid.specs.Cover.{All, top_part, Once}
 use Rattle.upid.specs.Upid as upid
 use Rattle.upid.specs.Upid.{upid_of, check_of, reported_of}
 use Rattle.upid.specs.declared.Refusal.{Refusal}
-use Rattle.upid.specs.declared.UpidRead.TheVariants.{Fine}
 use Rattle.descriptor.proofs.Heads.{upid_in}
 use Rattle.descriptor.specs.Segmentation.{fields_before}
 use Rattle.descriptor.specs.Descriptor.{moved_refusal}
 use Rattle.descriptor.specs.Views.{without_view}
 use Rattle.descriptor.specs.Full.{beside_of, identifier_read}
 use Rattle.descriptor.specs.declared.Descriptor.{Descriptor}
-use Rattle.descriptor.specs.declared.DescriptorRead.{DescriptorRead}
 use Rattle.descriptor.specs.declared.segmentation.SegmentationDescriptor.{SegmentationDescriptor}
 use Rattle.descriptor.specs.declared.segmentation.DescriptorDetail.{DescriptorDetail}
 use Rattle.descriptor.specs.declared.segmentation.SegmentationDetail.{SegmentationDetail}
@@ -47,13 +44,11 @@ use Rattle.descriptor_loop.proofs.Steps.{Stands, Clause, long, ended, last, smal
 use Rattle.descriptor_loop.specs.Items.{item_at, read_at, complete_at, step_of, beside_item, reading_of, Listed, items_of}
 use Rattle.descriptor_loop.specs.Place.{views_of, moved_upid}
 use Rattle.descriptor_loop.specs.Private.{moved_detail}
-use Rattle.descriptor_loop.specs.declared.Item.{Item}
 use Rattle.descriptor_loop.specs.declared.ItemRefusal.{ItemRefusal}
 use Rattle.descriptor_loop.specs.declared.Step.{Step}
 use Rattle.descriptor_loop.specs.declared.reading.Reading.{Reading}
 use Rattle.section.specs.Section.{command_length, command_bytes, moved, section_of, loop_in}
 use Rattle.section.specs.declared.Section.{Section}
-use Rattle.section.specs.declared.SectionRead.{SectionRead}
 use Rattle.table.proofs.Bits.{byte_in}
 use Rattle.theorems_reader.specs.Identifiers.{Identifier, OneRun, in_section, in_lent, parts_read, upids_of, Unsplit}
 use Rattle.theorems_reader.specs.Whole.{Exactly, WholeUpid, upid_at, WholeText, WholeAt}
@@ -65,6 +60,8 @@ use Rattle.theorems_reader.proofs.Runs.{viewed_is, length_viewed, length_run, se
 use Rattle.theorems_reader.proofs.Sections.{each_item, loop_run, loop_short}
 use Rattle.theorems_reader.proofs.WholeTexts.{Headed}
 use Rattle.theorems_reader.proofs.WholePayloads.{upid_place, Told, SaysDetail, SaysRefusal, Says, payload_says_lem}
+use Rattle.std.proofs.Common.{Ok, Err, Some, Option, Result}
+use Rattle.command.specs.declared.CommandRefusal.{CommandRefusal}
 
 -- ---- a run of the section is exactly the bytes at its start
 
@@ -157,7 +154,7 @@ module _ (s : List ℕ) (i : Identifier) (r : OneRun s i) (offset L : ℕ) (st :
         go : (b : Bool) → eqb (get_or payload (q + 1) 0) 0 ≡ b → u.upid_type ≡ pick b 0 (reported_of (get_or payload q 0))
         go true e =
             let z : get_or payload (q + 1) 0 ≡ 0 = eqb-true _ _ e in
-            let c : check_of (get_or payload q 0) its ≡ Fine 0 = check_none (get_or payload q 0) its (its_length ∙ z) in
+            let c : check_of (get_or payload q 0) its ≡ Ok 0 = check_none (get_or payload q 0) its (its_length ∙ z) in
             cc (t.checked, c)
         go false e =
             let z : get_or payload (q + 1) 0 ≡ 0 → ⊥ = eqb-false _ _ e in
@@ -180,7 +177,7 @@ module _ (s : List ℕ) (i : Identifier) (r : OneRun s i) (offset L : ℕ) (st :
       in_eidr : u.upid_type ≡ 10 → (get_or s h 0 ≡ 10) × (get_or s (h + 1) 0 ≡ 12) × Exactly s (h + 2) 12 (record { start = h + 2; len = 12; bytes = eidr })
       unfolding upid.eidr_of
       in_eidr k =
-          let e = eidr_is_written (get_or payload q 0) its (t.checked ∙ ap Fine k) in
+          let e = eidr_is_written (get_or payload q 0) its (t.checked ∙ ap Ok k) in
           let n : get_or payload (q + 1) 0 ≡ 12 = sym its_length ∙ e.1 in
           let run : OneRun s (in_lent i.start i.bytes (shifted (offset + 6) written)) = moved_run written t.there in
           let own : upid.eidr_of (get_or payload q 0) its ≡ its = rw (e.0, e.1) in
@@ -195,7 +192,7 @@ module _ (s : List ℕ) (i : Identifier) (r : OneRun s i) (offset L : ℕ) (st :
       mid_whole : u.upid_type ≡ 13 → Unsplit s (in_lent i.start i.bytes (moved_upid (offset + 6) u).bytes)
       mid_whole k =
           let w : without_view u.upid_type ≡ false = rw k in
-          let c : check_of (get_or payload q 0) its ≡ Fine 13 = t.checked ∙ ap Fine k in
+          let c : check_of (get_or payload q 0) its ≡ Ok 13 = t.checked ∙ ap Ok k in
           let z : get_or payload q 0 ≡ 13 = mid_is_written (get_or payload q 0) its c in
           let b : viewed i.bytes (moved_upid (offset + 6) u).bytes ≡ its = ap (viewed i.bytes) (view_is w) ∙ same_bytes written t.there in
           unsplit s (in_lent i.start i.bytes (moved_upid (offset + 6) u).bytes) (view_run w)
@@ -241,7 +238,7 @@ module _ (s : List ℕ) (i : Identifier) (r : OneRun s i) (offset L : ℕ) (st :
   abbrev payload_again : List ℕ
   payload_again = take (offset + (L + 2) - (offset + 6)) (drop (offset + 6) i.bytes)
 
-  abbrev reading_is : DescriptorRead → Reading
+  abbrev reading_is : Result Descriptor Refusal → Reading
   reading_is d = record {
     step = record { item = item_at (offset + 6) d; identifier = identifier_read d (take 4 (drop (offset + 2) i.bytes)); next = offset + (L + 2) };
     beside = beside_item (item_at (offset + 6) d) payload_again;
@@ -274,23 +271,23 @@ module _ (s : List ℕ) (i : Identifier) (r : OneRun s i) (offset L : ℕ) (st :
       → Exactly s at n (in_lent i.start i.bytes (shifted (offset + 6) v))
   view_exactly v w e g at n ea en = rw e (exactly s (in_lent i.start i.bytes (shifted (offset + 6) w)) (moved_run w g) at n ea en)
 
-  item_whole : (d : DescriptorRead) → Says payload d → ItemCase s i.start i.bytes offset (reading_is d) (item_at (offset + 6) d)
-  item_whole (DescriptorRead.Is (Descriptor.Avail x)) t = tt
-  item_whole (DescriptorRead.Is (Descriptor.Dtmf x)) t =
+  item_whole : (d : Result Descriptor Refusal) → Says payload d → ItemCase s i.start i.bytes offset (reading_is d) (item_at (offset + 6) d)
+  item_whole (Ok (Descriptor.Avail x)) t = tt
+  item_whole (Ok (Descriptor.Dtmf x)) t =
       let n : get_or payload 1 0 ≡ get_or s (i.start + offset + 6 + 1) 0 = byte 1 (omega (arith, t.1, size)) (i.start + offset + 6 + 1) refl in
       view_exactly x.dtmf_chars _ t.0 t.1 _ _ (omega arith) (ap (λ (l : ℕ). l / 32) n)
-  item_whole (DescriptorRead.Is (Descriptor.Segmentation x)) t = detail_whole x.descriptor_detail t
-  item_whole (DescriptorRead.Is (Descriptor.Time x)) t = tt
-  item_whole (DescriptorRead.Is (Descriptor.Reserved tag v)) t = (
+  item_whole (Ok (Descriptor.Segmentation x)) t = detail_whole x.descriptor_detail t
+  item_whole (Ok (Descriptor.Time x)) t = tt
+  item_whole (Ok (Descriptor.Reserved tag v)) t = (
     view_exactly v (record { at = 0; len = length payload }) t (omega arith) _ _ (omega arith) (omega (arith, size, length_written)),
     identifier_run,
   )
-  item_whole (DescriptorRead.Refused q) t = refusal_whole q t
+  item_whole (Err q) t = refusal_whole q t
 
 -- ---- at any offset
 
 -- a refusal without a view
-no_text : (s : List ℕ) (p base : ℕ) (loop : List ℕ) (q : ItemRefusal) → views_of (Item.Refused q) ≡ [] → RefusalCase s p base loop q
+no_text : (s : List ℕ) (p base : ℕ) (loop : List ℕ) (q : ItemRefusal) → views_of (Some (Err q)) ≡ [] → RefusalCase s p base loop q
 no_text s p base loop ItemRefusal.InvalidDescriptorLength e = tt
 no_text s p base loop (ItemRefusal.Other Refusal.InputTooLong) e = tt
 no_text s p base loop (ItemRefusal.Other (Refusal.NotEnoughData expected actual)) e = tt
@@ -325,21 +322,21 @@ module _ (s : List ℕ) (a : AllBytes s) (i : Identifier) (r : OneRun s i) where
 
 -- ---- the private bytes of a command
 
-abbrev Ends : List ℕ → CommandRead → Type 0
-Ends s (CommandRead.Is (SpliceCommand.PrivateCommand p)) = (p.private_bytes ≡ record { at = 4; len = length s - 4 }) × (4 ≤ length s)
-Ends s (CommandRead.Is SpliceCommand.SpliceNull) = Unit {0}
-Ends s (CommandRead.Is (SpliceCommand.SpliceInsert i)) = Unit {0}
-Ends s (CommandRead.Is (SpliceCommand.TimeSignal t)) = Unit {0}
-Ends s (CommandRead.Is SpliceCommand.BandwidthReservation) = Unit {0}
-Ends s CommandRead.UnknownType = Unit {0}
-Ends s CommandRead.Malformed = Unit {0}
+abbrev Ends : List ℕ → Result SpliceCommand CommandRefusal → Type 0
+Ends s (Ok (SpliceCommand.PrivateCommand p)) = (p.private_bytes ≡ record { at = 4; len = length s - 4 }) × (4 ≤ length s)
+Ends s (Ok SpliceCommand.SpliceNull) = Unit {0}
+Ends s (Ok (SpliceCommand.SpliceInsert i)) = Unit {0}
+Ends s (Ok (SpliceCommand.TimeSignal t)) = Unit {0}
+Ends s (Ok SpliceCommand.BandwidthReservation) = Unit {0}
+Ends s (Err CommandRefusal.UnknownType) = Unit {0}
+Ends s (Err CommandRefusal.Malformed) = Unit {0}
 
 module _ (s : List ℕ) where
-  picked : (b : Bool) (x y : CommandRead) → Ends s x → Ends s y → Ends s (pick b x y)
+  picked : (b : Bool) (x y : Result SpliceCommand CommandRefusal) → Ends s x → Ends s y → Ends s (pick b x y)
   picked true x y h k = h
   picked false x y h k = k
 
-  reading : {X : Type 0} (f : X → SpliceCommand) (r : Answer X) → ((x : X) (m : ℕ) → r ≡ got x m → Ends s (CommandRead.Is (f x))) → Ends s (read f r)
+  reading : {X : Type 0} (f : X → SpliceCommand) (r : Answer X) → ((x : X) (m : ℕ) → r ≡ got x m → Ends s (Ok (f x))) → Ends s (read f r)
   reading f (got x m) h = h x m refl
   reading f (short e a) h = tt
 
@@ -365,13 +362,13 @@ module _ (s : List ℕ) where
 -- ---- of a section
 
 -- what is said of an item says it of its UPID
-upid_from : (s : List ℕ) (base : ℕ) (loop : List ℕ) (offset : ℕ) (r : Reading) (it : Item) (d : SegmentationDescriptor) (i : SegmentationDetail) → it ≡ Item.Is (Descriptor.Segmentation d)
+upid_from : (s : List ℕ) (base : ℕ) (loop : List ℕ) (offset : ℕ) (r : Reading) (it : Option (Result Descriptor ItemRefusal)) (d : SegmentationDescriptor) (i : SegmentationDetail) → it ≡ Some (Ok (Descriptor.Segmentation d))
     → d.descriptor_detail ≡ DescriptorDetail.Active i → ItemCase s base loop offset r it → WholeUpid s (upid_at s (base + offset + 6)) base loop r.beside.eidr i.segmentation_upid
 upid_from s base loop offset r it d i e f w =
     let g : DetailCase s (base + offset + 6) base loop r.beside.eidr d.descriptor_detail = rw e at w in
     rw f at g
 
-module _ (s : List ℕ) (x : Section) (e : section_of s ≡ SectionRead.Is x) where
+module _ (s : List ℕ) (x : Section) (e : section_of s ≡ Ok x) where
   pub whole_case : AllBytes s → (offset : ℕ) → ItemCase s x.descriptors.at (loop_in s x) offset (reading_of (loop_in s x) offset) (reading_of (loop_in s x) offset).step.item
   unfolding reading_of
   whole_case a offset = whole_reading s a (in_section s x.descriptors) (loop_run s x e) offset
@@ -384,10 +381,10 @@ module _ (s : List ℕ) (x : Section) (e : section_of s ≡ SectionRead.Is x) wh
   unfolding reading_of
   whole_items a = each_item (λ o inside. (refl, whole_at a o)) (walked (loop_in s x) (loop_short s x e))
 
-  command_whole : (k : ℕ) (c : SpliceCommand) → 14 + command_length s ≤ length s → command_of k (command_bytes s) ≡ CommandRead.Is c → CommandCase s (moved 14 c)
+  command_whole : (k : ℕ) (c : SpliceCommand) → 14 + command_length s ≤ length s → command_of k (command_bytes s) ≡ Ok c → CommandCase s (moved 14 c)
   unfolding moved command_bytes
   command_whole k (SpliceCommand.PrivateCommand p) h f =
-      let g : Ends (command_bytes s) (CommandRead.Is (SpliceCommand.PrivateCommand p)) = rw f at (all_end (command_bytes s) k) in
+      let g : Ends (command_bytes s) (Ok (SpliceCommand.PrivateCommand p)) = rw f at (all_end (command_bytes s) k) in
       let n : length (take (command_length s) (drop 14 s)) ≡ command_length s = omega (arith, length-take (command_length s) (drop 14 s), length-drop 14 s) in
       let at : 14 + p.private_bytes.at ≡ 18 = ap (λ (v : View). 14 + v.at) g.0 in
       let l : p.private_bytes.len ≡ command_length s - 4 = ap (λ (v : View). v.len) g.0 ∙ ap (λ (m : ℕ). m - 4) n in
@@ -408,7 +405,7 @@ module _ (s : List ℕ) (x : Section) (e : section_of s ≡ SectionRead.Is x) wh
 
   -- ---- the UPID of a segmentation descriptor that is read at any offset
 
-  module _ (offset : ℕ) (d : SegmentationDescriptor) (i : SegmentationDetail) (is : (step_of (loop_in s x) offset).item ≡ Item.Is (Descriptor.Segmentation d))
+  module _ (offset : ℕ) (d : SegmentationDescriptor) (i : SegmentationDetail) (is : (step_of (loop_in s x) offset).item ≡ Some (Ok (Descriptor.Segmentation d)))
       (detail : d.descriptor_detail ≡ DescriptorDetail.Active i) where
     pub whole_upid : AllBytes s
         → WholeUpid s (upid_at s (x.descriptors.at + offset + 6)) x.descriptors.at (loop_in s x) (reading_of (loop_in s x) offset).beside.eidr i.segmentation_upid
@@ -417,7 +414,7 @@ module _ (s : List ℕ) (x : Section) (e : section_of s ≡ SectionRead.Is x) wh
 
     pub whole_mid : i.segmentation_upid.upid_type ≡ 13 → Unsplit s (in_lent x.descriptors.at (loop_in s x) i.segmentation_upid.bytes)
     whole_mid k =
-        let f : All (Found (loop_in s x) offset (step_of (loop_in s x) offset).next) (upids_of (Item.Is (Descriptor.Segmentation d))) = rw is at (found (clause (loop_in s x) offset)) in
+        let f : All (Found (loop_in s x) offset (step_of (loop_in s x) offset).next) (upids_of (Some (Ok (Descriptor.Segmentation d)))) = rw is at (found (clause (loop_in s x) offset)) in
         let g : All (Found (loop_in s x) offset (step_of (loop_in s x) offset).next) (i.segmentation_upid ∷ []) = rw detail at f in
         mid_of s (in_section s x.descriptors) (loop_run s x e) offset (step_of (loop_in s x) offset).next i.segmentation_upid (all_first g) k
 

@@ -6,12 +6,12 @@ use lib.ListN.{get_or}
 use Rattle.command.specs.declared.SpliceCommand.{SpliceCommand}
 use Rattle.descriptor.specs.declared.Descriptor.{Descriptor}
 use Rattle.descriptor.specs.declared.segmentation.DescriptorDetail.{DescriptorDetail}
-use Rattle.descriptor_loop.specs.declared.Item.{Item}
 use Rattle.descriptor_loop.specs.declared.ItemRefusal.{ItemRefusal}
 use Rattle.descriptor_loop.specs.declared.reading.Reading.{Reading}
 use Rattle.upid.specs.declared.Refusal.{Refusal}
 use Rattle.theorems_reader.specs.Identifiers.{in_section, in_lent}
 use Rattle.theorems_reader.specs.Whole.{Exactly, WholeUpid, upid_at, WholeText, WholeItem, WholePrivate, WholeCommand}
+use Rattle.std.proofs.Common.{Ok, Err, Some, None, Option, Result}
 
 abbrev pub DetailCase : List ℕ → ℕ → ℕ → List ℕ → List ℕ → DescriptorDetail → Type 0
 DetailCase s p base loop eidr DescriptorDetail.Cancel = get_or s (p + 4) 0 / 128 % 2 ≡ 1
@@ -25,16 +25,16 @@ RefusalCase s p base loop (ItemRefusal.Other Refusal.UpidLengthTypeMismatch) = U
 RefusalCase s p base loop (ItemRefusal.Other (Refusal.InvalidUpidContent upid_type v)) = WholeText s p upid_type (in_lent base loop v)
 RefusalCase s p base loop (ItemRefusal.Other (Refusal.InvalidUpidLength upid_type expected actual)) = Unit {0}
 
-abbrev pub ItemCase : List ℕ → ℕ → List ℕ → ℕ → Reading → Item → Type 0
-ItemCase s base loop offset r Item.End = Unit {0}
-ItemCase s base loop offset r (Item.Refused q) = RefusalCase s (base + offset + 6) base loop q
-ItemCase s base loop offset r (Item.Is (Descriptor.Avail x)) = Unit {0}
-ItemCase s base loop offset r (Item.Is (Descriptor.Dtmf x)) =
+abbrev pub ItemCase : List ℕ → ℕ → List ℕ → ℕ → Reading → Option (Result Descriptor ItemRefusal) → Type 0
+ItemCase s base loop offset r None = Unit {0}
+ItemCase s base loop offset r (Some (Err q)) = RefusalCase s (base + offset + 6) base loop q
+ItemCase s base loop offset r (Some (Ok (Descriptor.Avail x))) = Unit {0}
+ItemCase s base loop offset r (Some (Ok (Descriptor.Dtmf x))) =
     let p : ℕ = base + offset + 6 in
     Exactly s (p + 2) (get_or s (p + 1) 0 / 32) (in_lent base loop x.dtmf_chars)
-ItemCase s base loop offset r (Item.Is (Descriptor.Segmentation x)) = DetailCase s (base + offset + 6) base loop r.beside.eidr x.descriptor_detail
-ItemCase s base loop offset r (Item.Is (Descriptor.Time x)) = Unit {0}
-ItemCase s base loop offset r (Item.Is (Descriptor.Reserved tag v)) =
+ItemCase s base loop offset r (Some (Ok (Descriptor.Segmentation x))) = DetailCase s (base + offset + 6) base loop r.beside.eidr x.descriptor_detail
+ItemCase s base loop offset r (Some (Ok (Descriptor.Time x))) = Unit {0}
+ItemCase s base loop offset r (Some (Ok (Descriptor.Reserved tag v))) =
     Exactly s (base + offset + 6) (get_or s (base + offset + 1) 0 - 4) (in_lent base loop v)
     × Exactly s (base + offset + 2) 4 (record { start = base + offset + 2; len = 4; bytes = r.step.identifier })
 

@@ -18,15 +18,12 @@ use Rattle.upid.specs.Upid as upid
 use Rattle.upid.specs.Upid.{check_of}
 use Rattle.upid.specs.declared.Refusal.{Refusal}
 use Rattle.upid.specs.declared.Refusal.TheVariants.{InputTooLong, NotEnoughData, UpidLengthTypeMismatch, InvalidUpidContent, InvalidUpidLength}
-use Rattle.upid.specs.declared.UpidRead.{UpidRead}
-use Rattle.upid.specs.declared.UpidRead.TheVariants.{Fine, Refused}
 use Rattle.descriptor.proofs.Plains.{reserved_is}
 use Rattle.descriptor.specs.Descriptor.{◌and_then◌, moved_refusal, reported_upid, if_fine, avail_of, dtmf_of, time_of, reserved_of, active_with, active_of, segmentation_of, is_cuei, descriptor_of}
 use Rattle.descriptor.specs.Plain.{avail, dtmf, time}
 use Rattle.descriptor.specs.Segmentation.{ListedFront, Head, head, front, back, active_from, segmentation, mode_size, duration_size, fields_before}
 use Rattle.descriptor.specs.Full.{beside_in, beside_of}
 use Rattle.descriptor.specs.declared.Descriptor.{Descriptor}
-use Rattle.descriptor.specs.declared.DescriptorRead.{DescriptorRead}
 use Rattle.descriptor.specs.declared.plain.DTMFDescriptor.{DTMFDescriptor}
 use Rattle.descriptor.specs.declared.segmentation.DescriptorDetail.{DescriptorDetail}
 use Rattle.descriptor.specs.declared.segmentation.SegmentationDetail.{SegmentationDetail}
@@ -34,6 +31,7 @@ use Rattle.descriptor.specs.declared.segmentation.SegmentationUpid.{Segmentation
 use Rattle.theorems_reader.proofs.Runs.{viewed_is, length_viewed}
 use Rattle.descriptor.proofs.Heads.{head_ends, head_cancels, place, upid_in, Placed, front_told}
 use Rattle.theorems_reader.proofs.WholeTexts.{Headed, text_headed}
+use Rattle.std.proofs.Common.{Ok, Err, Result}
 
 -- where it stands in its payload, by what is read of the fields before it
 abbrev pub upid_place : SegmentationDetail → ℕ
@@ -43,7 +41,7 @@ upid_place i = 6 + (mode_size i.segmentation_mode + duration_size i.segmentation
 pub record Told (s : List ℕ) (i : SegmentationDetail) : Type 0 where
   pub before : upid_place i ≡ 6 + fields_before (get_or s 5 0) (get_or s 6 0)
   pub there : upid_place i + 2 + get_or s (upid_place i + 1) 0 ≤ length s
-  pub checked : check_of (get_or s (upid_place i) 0) (viewed s (upid_in s (upid_place i)).bytes) ≡ Fine i.segmentation_upid.upid_type
+  pub checked : check_of (get_or s (upid_place i) 0) (viewed s (upid_in s (upid_place i)).bytes) ≡ Ok i.segmentation_upid.upid_type
   pub is : i.segmentation_upid ≡ reported_upid i.segmentation_upid.upid_type (upid_in s (upid_place i)).bytes
   pub beside : (beside_of s).eidr ≡ upid.eidr_of (get_or s (upid_place i) 0) (viewed s (upid_in s (upid_place i)).bytes)
 
@@ -58,27 +56,27 @@ SaysRefusal s UpidLengthTypeMismatch = Unit {0}
 SaysRefusal s (InvalidUpidContent upid_type_number v) = Headed s 0 upid_type_number v
 SaysRefusal s (InvalidUpidLength upid_type_number expected actual) = Unit {0}
 
-abbrev pub Says : List ℕ → DescriptorRead → Type 0
-Says s (DescriptorRead.Is (Descriptor.Avail x)) = Unit {0}
-Says s (DescriptorRead.Is (Descriptor.Dtmf x)) = (x.dtmf_chars ≡ record { at = 2; len = get_or s 1 0 / 32 }) × (2 + get_or s 1 0 / 32 ≤ length s)
-Says s (DescriptorRead.Is (Descriptor.Segmentation x)) = SaysDetail s x.descriptor_detail
-Says s (DescriptorRead.Is (Descriptor.Time x)) = Unit {0}
-Says s (DescriptorRead.Is (Descriptor.Reserved tag v)) = v ≡ record { at = 0; len = length s }
-Says s (DescriptorRead.Refused r) = SaysRefusal s r
+abbrev pub Says : List ℕ → Result Descriptor Refusal → Type 0
+Says s (Ok (Descriptor.Avail x)) = Unit {0}
+Says s (Ok (Descriptor.Dtmf x)) = (x.dtmf_chars ≡ record { at = 2; len = get_or s 1 0 / 32 }) × (2 + get_or s 1 0 / 32 ≤ length s)
+Says s (Ok (Descriptor.Segmentation x)) = SaysDetail s x.descriptor_detail
+Says s (Ok (Descriptor.Time x)) = Unit {0}
+Says s (Ok (Descriptor.Reserved tag v)) = v ≡ record { at = 0; len = length s }
+Says s (Err r) = SaysRefusal s r
 
 module _ (s : List ℕ) (bytes : (k : ℕ) → get_or s k 0 < 256) where
-  picked : (t : Bool) (a b : DescriptorRead) → (t ≡ true → Says s a) → (t ≡ false → Says s b) → Says s (pick t a b)
+  picked : (t : Bool) (a b : Result Descriptor Refusal) → (t ≡ true → Says s a) → (t ≡ false → Says s b) → Says s (pick t a b)
   picked true a b p q = p refl
   picked false a b p q = q refl
 
-  and_then_lem : {X : Type 0} (a : Answer X) (k : X → ℕ → DescriptorRead) → ((x : X) (m : ℕ) → a ≡ got x m → Says s (k x m)) → Says s (a and_then k)
+  and_then_lem : {X : Type 0} (a : Answer X) (k : X → ℕ → Result Descriptor Refusal) → ((x : X) (m : ℕ) → a ≡ got x m → Says s (k x m)) → Says s (a and_then k)
   and_then_lem (got x m) k f = f x m refl
   and_then_lem (short expected actual) k f = tt
 
-  if_fine_lem : (c : UpidRead) (v : View) (k : SegmentationUpid → DescriptorRead) → ((q : ℕ) → c ≡ Fine q → Says s (k (reported_upid q v)))
-      → ((r : Refusal) → c ≡ Refused r → SaysRefusal s (moved_refusal v.at r)) → Says s (if_fine c v k)
-  if_fine_lem (Fine q) v k f g = f q refl
-  if_fine_lem (Refused r) v k f g = g r refl
+  if_fine_lem : (c : Result ℕ Refusal) (v : View) (k : SegmentationUpid → Result Descriptor Refusal) → ((q : ℕ) → c ≡ Ok q → Says s (k (reported_upid q v)))
+      → ((r : Refusal) → c ≡ Err r → SaysRefusal s (moved_refusal v.at r)) → Says s (if_fine c v k)
+  if_fine_lem (Ok q) v k f g = f q refl
+  if_fine_lem (Err r) v k f g = g r refl
 
   -- ---- a refused UPID
 
@@ -98,7 +96,7 @@ module _ (s : List ℕ) (bytes : (k : ℕ) → get_or s k 0 < 256) where
         ∙ get_or-take (get_or s (q + 1) 0) (drop (q + 2) s) j 0 (omega (arith, its_length)) ∙ get_or-drop (q + 2) s j 0
         ∙ ap (λ (i : ℕ). get_or s i 0) (let z : q + 2 + j ≡ q + suc (suc j) = omega arith in z)
 
-    refused_upid : (r : Refusal) → check_of (get_or s q 0) its ≡ Refused r → SaysRefusal s (moved_refusal (q + 2) r)
+    refused_upid : (r : Refusal) → check_of (get_or s q 0) its ≡ Err r → SaysRefusal s (moved_refusal (q + 2) r)
     refused_upid InputTooLong e = tt
     refused_upid (NotEnoughData expected actual) e = tt
     refused_upid UpidLengthTypeMismatch e = tt
@@ -120,7 +118,7 @@ module _ (s : List ℕ) (bytes : (k : ℕ) → get_or s k 0 < 256) where
 
   module _ (h : Head) (m : ℕ) (eh : parse head (bits_of s) 0 ≡ got h m) (off : h.cancel ≡ false) where
     told : (f : ListedFront) (m₁ : ℕ) (b : _) (m₂ q : ℕ) → parse front (bits_of s) m ≡ got f m₁ → parse back (bits_of s) m₁ ≡ got b m₂ → Placed s bytes f
-        → check_of f.front.segmentation_upid.upid_type (viewed s f.front.segmentation_upid.bytes) ≡ Fine q
+        → check_of f.front.segmentation_upid.upid_type (viewed s f.front.segmentation_upid.bytes) ≡ Ok q
         → Told s (active_from f.front (reported_upid q f.front.segmentation_upid.bytes) b)
     unfolding segmentation beside_of beside_in
     told f m₁ b m₂ q ef eb p ec =

@@ -15,8 +15,7 @@ use Rattle.upid.specs.Text.{text_of}
 use Rattle.upid.specs.Upid.{check_of, read_of, walk_of, plain_of, ◌then◌, length_of, is_text, reported_of}
 use Rattle.upid.specs.declared.Refusal.{Refusal}
 use Rattle.upid.specs.declared.Refusal.TheVariants.{InputTooLong, NotEnoughData, UpidLengthTypeMismatch, InvalidUpidContent, InvalidUpidLength}
-use Rattle.upid.specs.declared.UpidRead.{UpidRead}
-use Rattle.upid.specs.declared.UpidRead.TheVariants.{Fine, Refused}
+use Rattle.std.proofs.Common.{Ok, Err, Result}
 
 -- v lies in these bytes, which start at `start`, behind a head in them: its type q and its length
 pub record Headed (bytes : List ℕ) (start q : ℕ) (v : View) : Type 0 where
@@ -26,13 +25,13 @@ pub record Headed (bytes : List ℕ) (start q : ℕ) (v : View) : Type 0 where
   pub inside : v.at + v.len ≤ start + length bytes
 
 -- a payload of its own is refused as a whole
-plain_text : (k start : ℕ) (bytes : List ℕ) (q : ℕ) (v : View) → plain_of k start bytes ≡ Refused (InvalidUpidContent q v) → (q ≡ k) × (v ≡ record { at = start; len = length bytes })
+plain_text : (k start : ℕ) (bytes : List ℕ) (q : ℕ) (v : View) → plain_of k start bytes ≡ Err (InvalidUpidContent q v) → (q ≡ k) × (v ≡ record { at = start; len = length bytes })
 unfolding plain_of
 plain_text k start bytes q v e = go (eqb k 0) (eqb (length_of k) 0) (eqb (length bytes) (length_of k)) (is_text k && not (text_of bytes)) e
   where
     go : (a b c d : Bool)
-        → pick a (Refused UpidLengthTypeMismatch) (pick b (Fine (reported_of k)) (pick (not c) (Refused (InvalidUpidLength k (length_of k) (length bytes)))
-        (pick d (Refused (InvalidUpidContent k (record { at = start; len = length bytes }))) (Fine (reported_of k))))) ≡ Refused (InvalidUpidContent q v)
+        → pick a (Err UpidLengthTypeMismatch) (pick b (Ok (reported_of k)) (pick (not c) (Err (InvalidUpidLength k (length_of k) (length bytes)))
+        (pick d (Err (InvalidUpidContent k (record { at = start; len = length bytes }))) (Ok (reported_of k))))) ≡ Err (InvalidUpidContent q v)
         → (q ≡ k) × (v ≡ record { at = start; len = length bytes })
     go true b c d h = zero_one cc
     go false true c d h = zero_one cc
@@ -90,12 +89,12 @@ module _ (start k l : ℕ) (rest : List ℕ) (fits : l ≤ length rest) (q : ℕ
         inside = omega (arith, n);
       })
 
-then_refused : {A : Type 0} (a b : UpidRead) (r : Refusal) → a then b ≡ Refused r → (a ≡ Refused r → A) → (b ≡ Refused r → A) → A
+then_refused : {A : Type 0} (a b : Result ℕ Refusal) (r : Refusal) → a then b ≡ Err r → (a ≡ Err r → A) → (b ≡ Err r → A) → A
 unfolding ◌then◌
-then_refused (Fine k) b r e f g = g e
-then_refused (Refused x) b r e f g = f e
+then_refused (Ok k) b r e f g = g e
+then_refused (Err x) b r e f g = f e
 
-walk_text : (n start : ℕ) (bytes : List ℕ) (q : ℕ) (v : View) → walk_of n start bytes ≡ Refused (InvalidUpidContent q v) → Headed bytes start q v
+walk_text : (n start : ℕ) (bytes : List ℕ) (q : ℕ) (v : View) → walk_of n start bytes ≡ Err (InvalidUpidContent q v) → Headed bytes start q v
 unfolding walk_of
 walk_text zero start bytes q v e = zero_one cc
 walk_text (suc n) start [] q v e = zero_one cc
@@ -103,15 +102,15 @@ walk_text (suc n) start (k ∷ []) q v e = zero_one cc
 walk_text (suc n) start (k ∷ (l ∷ rest)) q v e =
     go (ltb (length rest) l) refl (walk_text n (start + 2) (take l rest) q v) (walk_text n (start + (2 + l)) (drop l rest) q v) e
   where
-    kinds : (t : Bool) → l ≤ length rest → (walk_of n (start + 2) (take l rest) ≡ Refused (InvalidUpidContent q v) → Headed (take l rest) (start + 2) q v)
-        → pick t (walk_of n (start + 2) (take l rest)) (plain_of k (start + 2) (take l rest)) ≡ Refused (InvalidUpidContent q v) → Headed (k ∷ (l ∷ rest)) start q v
+    kinds : (t : Bool) → l ≤ length rest → (walk_of n (start + 2) (take l rest) ≡ Err (InvalidUpidContent q v) → Headed (take l rest) (start + 2) q v)
+        → pick t (walk_of n (start + 2) (take l rest)) (plain_of k (start + 2) (take l rest)) ≡ Err (InvalidUpidContent q v) → Headed (k ∷ (l ∷ rest)) start q v
     kinds true fits f h = inner start k l rest fits q v (f h)
     kinds false fits f h = first start k l rest fits q v (plain_text k (start + 2) (take l rest) q v h)
 
-    go : (t : Bool) → ltb (length rest) l ≡ t → (walk_of n (start + 2) (take l rest) ≡ Refused (InvalidUpidContent q v) → Headed (take l rest) (start + 2) q v)
-        → (walk_of n (start + (2 + l)) (drop l rest) ≡ Refused (InvalidUpidContent q v) → Headed (drop l rest) (start + (2 + l)) q v)
-        → pick t (Refused (NotEnoughData l (length rest)))
-        (pick (eqb k 13) (walk_of n (start + 2) (take l rest)) (plain_of k (start + 2) (take l rest)) then walk_of n (start + (2 + l)) (drop l rest)) ≡ Refused (InvalidUpidContent q v)
+    go : (t : Bool) → ltb (length rest) l ≡ t → (walk_of n (start + 2) (take l rest) ≡ Err (InvalidUpidContent q v) → Headed (take l rest) (start + 2) q v)
+        → (walk_of n (start + (2 + l)) (drop l rest) ≡ Err (InvalidUpidContent q v) → Headed (drop l rest) (start + (2 + l)) q v)
+        → pick t (Err (NotEnoughData l (length rest)))
+        (pick (eqb k 13) (walk_of n (start + 2) (take l rest)) (plain_of k (start + 2) (take l rest)) then walk_of n (start + (2 + l)) (drop l rest)) ≡ Err (InvalidUpidContent q v)
         → Headed (k ∷ (l ∷ rest)) start q v
     go true t f g h = zero_one cc
     go false t f g h =
@@ -119,11 +118,11 @@ walk_text (suc n) start (k ∷ (l ∷ rest)) q v e =
         then_refused _ _ _ h (kinds (eqb k 13) fits f) (λ z. after start k l rest fits q v (g z))
 
 -- of a UPID with its own head, two bytes that stand before its bytes
-pub text_headed : (k : ℕ) (bytes : List ℕ) (q : ℕ) (v : View) → check_of k bytes ≡ Refused (InvalidUpidContent q v) → Headed (k ∷ (length bytes ∷ bytes)) 0 q (record { at = 2 + v.at; len = v.len })
+pub text_headed : (k : ℕ) (bytes : List ℕ) (q : ℕ) (v : View) → check_of k bytes ≡ Err (InvalidUpidContent q v) → Headed (k ∷ (length bytes ∷ bytes)) 0 q (record { at = 2 + v.at; len = v.len })
 unfolding check_of read_of
 text_headed k bytes q v e = go (ltb 255 (length bytes)) (eqb (length bytes) 0) (eqb k 13) e
   where
-    go : (t u w : Bool) → pick t (Refused InputTooLong) (pick u (Fine 0) (pick w (walk_of (length bytes) 0 bytes) (plain_of k 0 bytes))) ≡ Refused (InvalidUpidContent q v)
+    go : (t u w : Bool) → pick t (Err InputTooLong) (pick u (Ok 0) (pick w (walk_of (length bytes) 0 bytes) (plain_of k 0 bytes))) ≡ Err (InvalidUpidContent q v)
         → Headed (k ∷ (length bytes ∷ bytes)) 0 q (record { at = 2 + v.at; len = v.len })
     go true u w h = zero_one cc
     go false true w h = zero_one cc

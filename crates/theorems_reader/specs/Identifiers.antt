@@ -1,5 +1,5 @@
 -- The identifiers of an accepted section, and what it means that each is one unbroken run of it.
-use Rattle.std.specs.Prelude.{ℕ, ◌+◌, ◌-◌, ◌≤◌, cond as pick, List, [], ◌∷◌, ◌++◌, map, ◌≡◌, eqb, length, take, drop, get_or}
+use Rattle.std.specs.Prelude.{ℕ, ◌+◌, ◌-◌, ◌≤◌, cond as pick, List, [], ◌∷◌, ◌++◌, map, ◌≡◌, eqb, length, take, drop, get_or, Ok, Err, Some, None, Option, Result}
 use Rattle.command.specs.Command.{of_private}
 use Rattle.descriptor.specs.Segmentation as table
 use Rattle.descriptor.specs.Segmentation.{detail_upid}
@@ -8,7 +8,6 @@ use Rattle.descriptor.specs.declared.segmentation.DescriptorDetail.{DescriptorDe
 use Rattle.descriptor.specs.declared.segmentation.SegmentationUpid.{SegmentationUpid}
 use Rattle.descriptor_loop.specs.Items.{Listed, items_of}
 use Rattle.descriptor_loop.specs.Place.{views_of}
-use Rattle.descriptor_loop.specs.declared.Item.{Item}
 use Rattle.section.specs.declared.Section.{Section}
 use Rattle.table.specs.Bits.{bits_of}
 use Rattle.table.specs.Lent.{viewed}
@@ -17,8 +16,9 @@ use Rattle.table.specs.declared.View.{View}
 use Rattle.upid.specs.Cover.{All, Covered, Ascending, Owned, top_part}
 use Rattle.upid.specs.Upid.{check_of, part_view, parts_in, reported_of, upid_of}
 use Rattle.upid.specs.declared.Part.{Part}
-use Rattle.upid.specs.declared.UpidRead.{UpidRead}
 use Rattle.section.specs.Section.{loop_in}
+use Rattle.descriptor.specs.declared.Descriptor.{Descriptor}
+use Rattle.descriptor_loop.specs.declared.ItemRefusal.{ItemRefusal}
 
 -- ---- an identifier
 
@@ -48,10 +48,10 @@ abbrev pub detail_upids : DescriptorDetail → List SegmentationUpid
 detail_upids DescriptorDetail.Cancel = []
 detail_upids (DescriptorDetail.Active i) = i.segmentation_upid ∷ []
 
-abbrev pub upids_of : Item → List SegmentationUpid
-upids_of Item.End = []
-upids_of (Item.Refused r) = []
-upids_of (Item.Is d) = of_segmentation (λ x. detail_upids x.descriptor_detail) [] d
+abbrev pub upids_of : Option (Result Descriptor ItemRefusal) → List SegmentationUpid
+upids_of None = []
+upids_of (Some (Err r)) = []
+upids_of (Some (Ok d)) = of_segmentation (λ x. detail_upids x.descriptor_detail) [] d
 
 -- the parts that `read_upid` answers of a UPID, at every level: where it is no MID there are none
 abbrev pub parts_read : ℕ → List ℕ → List Part
@@ -78,10 +78,10 @@ eidr_of base loop x = record {
 }
 
 -- "identifier of 4", which stands beside a reserved descriptor
-abbrev pub besides_of : ℕ → ℕ → List ℕ → Item → List Identifier
-besides_of base offset id Item.End = []
-besides_of base offset id (Item.Refused r) = []
-besides_of base offset id (Item.Is d) = of_reserved (record { start = base + (offset + 2); len = 4; bytes = id } ∷ []) [] d
+abbrev pub besides_of : ℕ → ℕ → List ℕ → Option (Result Descriptor ItemRefusal) → List Identifier
+besides_of base offset id None = []
+besides_of base offset id (Some (Err r)) = []
+besides_of base offset id (Some (Ok d)) = of_reserved (record { start = base + (offset + 2); len = 4; bytes = id } ∷ []) [] d
 
 abbrev pub each : {A B : Type 0} → (A → List B) → List A → List B
 each f [] = []
@@ -114,7 +114,7 @@ pub record Announced (s : List ℕ) (p : Part) (i : Identifier) : Type 0 where
 -- byte order, "outer part before its inner ones".
 pub record Unsplit (s : List ℕ) (mid : Identifier) : Type 0 where
   pub unbroken : OneRun s mid
-  pub accepted : check_of 13 mid.bytes ≡ UpidRead.Fine 13
+  pub accepted : check_of 13 mid.bytes ≡ Ok 13
   pub parts : All (λ (p : Part). Announced s p (in_lent mid.start mid.bytes (part_view p))) (parts_read 13 mid.bytes)
   pub covered : All (λ (m : Part). m.upid_type ≡ 13 → Covered mid.bytes (parts_read 13 mid.bytes) m) (top_part mid.bytes ∷ parts_read 13 mid.bytes)
   pub owned : All (Owned (top_part mid.bytes ∷ parts_read 13 mid.bytes)) (parts_read 13 mid.bytes)

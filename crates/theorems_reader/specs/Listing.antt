@@ -1,5 +1,5 @@
 -- What it means that the list of a section's identifiers (Identifiers.antt) is complete: what a reader is handed of each item is in it.
-use Rattle.std.specs.Prelude.{ℕ, ◌+◌, ◌≡◌}
+use Rattle.std.specs.Prelude.{ℕ, ◌+◌, ◌≡◌, Ok, Err, Some, None}
 use mathlib.Core.List.{List, Memᴰ}
 use Rattle.command.specs.declared.Private.{Private}
 use Rattle.command.specs.declared.SpliceCommand.{SpliceCommand}
@@ -10,7 +10,6 @@ use Rattle.descriptor.specs.declared.segmentation.SegmentationDescriptor.{Segmen
 use Rattle.descriptor.specs.declared.segmentation.SegmentationDetail.{SegmentationDetail}
 use Rattle.descriptor.specs.declared.segmentation.SegmentationUpid.{SegmentationUpid}
 use Rattle.descriptor_loop.specs.Items.{Listed}
-use Rattle.descriptor_loop.specs.declared.Item.{Item}
 use Rattle.descriptor_loop.specs.declared.ItemRefusal.{ItemRefusal}
 use Rattle.table.specs.Lent.{viewed}
 use Rattle.table.specs.declared.View.{View}
@@ -28,12 +27,12 @@ pub record ListsUpid (ids : List Identifier) (base : ℕ) (loop : List ℕ) (y :
 
 -- an item that is read: DTMF characters, a UPID, a reserved descriptor's bytes and identifier, the text of refusal 24
 pub record ListsItem (ids : List Identifier) (base : ℕ) (loop : List ℕ) (y : Listed) : Type 0 where
-  pub dtmf : (d : DTMFDescriptor) → y.step.item ≡ Item.Is (Descriptor.Dtmf d) → Memᴰ (in_lent base loop d.dtmf_chars) ids
-  pub upid : (d : SegmentationDescriptor) (i : SegmentationDetail) → y.step.item ≡ Item.Is (Descriptor.Segmentation d) → d.descriptor_detail ≡ DescriptorDetail.Active i
+  pub dtmf : (d : DTMFDescriptor) → y.step.item ≡ Some (Ok (Descriptor.Dtmf d)) → Memᴰ (in_lent base loop d.dtmf_chars) ids
+  pub upid : (d : SegmentationDescriptor) (i : SegmentationDetail) → y.step.item ≡ Some (Ok (Descriptor.Segmentation d)) → d.descriptor_detail ≡ DescriptorDetail.Active i
       → ListsUpid ids base loop y i.segmentation_upid
-  pub reserved : (tag : ℕ) (v : View) → y.step.item ≡ Item.Is (Descriptor.Reserved tag v)
+  pub reserved : (tag : ℕ) (v : View) → y.step.item ≡ Some (Ok (Descriptor.Reserved tag v))
       → Memᴰ (in_lent base loop v) ids × Memᴰ (record { start = base + (y.offset + 2); len = 4; bytes = y.step.identifier }) ids
-  pub text : (k : ℕ) (v : View) → y.step.item ≡ Item.Refused (ItemRefusal.Other (Refusal.InvalidUpidContent k v)) → Memᴰ (in_lent base loop v) ids
+  pub text : (k : ℕ) (v : View) → y.step.item ≡ Some (Err (ItemRefusal.Other (Refusal.InvalidUpidContent k v))) → Memᴰ (in_lent base loop v) ids
 
 -- the private bytes of a command
 abbrev pub ListsCommand : List Identifier → List ℕ → SpliceCommand → Type 0

@@ -1,6 +1,6 @@
 -- What it means that an identifier of a section is whole: it is the very run that the section's own bytes announce, at the place where 01's layout puts it.
 -- `OneRun` says less: that it is some run.
-use Rattle.std.specs.Prelude.{ℕ, ◌+◌, ◌-◌, ◌/◌, ◌%◌, ◌≤◌, List, ◌≡◌, eqb, length, take, drop, get_or}
+use Rattle.std.specs.Prelude.{ℕ, ◌+◌, ◌-◌, ◌/◌, ◌%◌, ◌≤◌, List, ◌≡◌, eqb, length, take, drop, get_or, Ok, Err, Some, None}
 use Rattle.command.specs.declared.Private.{Private}
 use Rattle.command.specs.declared.SpliceCommand.{SpliceCommand}
 use Rattle.descriptor.specs.Segmentation.{fields_before}
@@ -10,7 +10,6 @@ use Rattle.descriptor.specs.declared.segmentation.DescriptorDetail.{DescriptorDe
 use Rattle.descriptor.specs.declared.segmentation.SegmentationDescriptor.{SegmentationDescriptor}
 use Rattle.descriptor.specs.declared.segmentation.SegmentationDetail.{SegmentationDetail}
 use Rattle.descriptor.specs.declared.segmentation.SegmentationUpid.{SegmentationUpid}
-use Rattle.descriptor_loop.specs.declared.Item.{Item}
 use Rattle.descriptor_loop.specs.declared.ItemRefusal.{ItemRefusal}
 use Rattle.descriptor_loop.specs.declared.reading.Reading.{Reading}
 use Rattle.section.specs.Section.{command_length, loop_in}
@@ -51,16 +50,16 @@ pub record WholeText (s : List ℕ) (p k : ℕ) (i : Identifier) : Type 0 where
 -- ---- an item that is read at `offset` of a loop which starts at `base` of the section, with what stands beside it; its payload starts 6 bytes behind its head
 pub record WholeItem (s : List ℕ) (base : ℕ) (loop : List ℕ) (offset : ℕ) (r : Reading) : Type 0 where
   -- "1 DTMF: preroll 8, count 3, reserved 5, count bytes"
-  pub dtmf : (d : DTMFDescriptor) → r.step.item ≡ Item.Is (Descriptor.Dtmf d)
+  pub dtmf : (d : DTMFDescriptor) → r.step.item ≡ Some (Ok (Descriptor.Dtmf d))
       → Exactly s (base + offset + 6 + 2) (get_or s (base + offset + 6 + 1) 0 / 32) (in_lent base loop d.dtmf_chars)
-  pub upid : (d : SegmentationDescriptor) (i : SegmentationDetail) → r.step.item ≡ Item.Is (Descriptor.Segmentation d) → d.descriptor_detail ≡ DescriptorDetail.Active i
+  pub upid : (d : SegmentationDescriptor) (i : SegmentationDetail) → r.step.item ≡ Some (Ok (Descriptor.Segmentation d)) → d.descriptor_detail ≡ DescriptorDetail.Active i
       → WholeUpid s (upid_at s (base + offset + 6)) base loop r.beside.eidr i.segmentation_upid
   -- (a cancelled one has no UPID, and its cancel bit is set: none is left out)
-  pub cancelled : (d : SegmentationDescriptor) → r.step.item ≡ Item.Is (Descriptor.Segmentation d) → d.descriptor_detail ≡ DescriptorDetail.Cancel → get_or s (base + offset + 6 + 4) 0 / 128 % 2 ≡ 1
+  pub cancelled : (d : SegmentationDescriptor) → r.step.item ≡ Some (Ok (Descriptor.Segmentation d)) → d.descriptor_detail ≡ DescriptorDetail.Cancel → get_or s (base + offset + 6 + 4) 0 / 128 % 2 ≡ 1
   -- "reserved, with tag, identifier and bytes": the length that is written counts the identifier's four bytes and these
-  pub reserved : (tag : ℕ) (v : View) → r.step.item ≡ Item.Is (Descriptor.Reserved tag v) → Exactly s (base + offset + 6) (get_or s (base + offset + 1) 0 - 4) (in_lent base loop v)
+  pub reserved : (tag : ℕ) (v : View) → r.step.item ≡ Some (Ok (Descriptor.Reserved tag v)) → Exactly s (base + offset + 6) (get_or s (base + offset + 1) 0 - 4) (in_lent base loop v)
       × Exactly s (base + offset + 2) 4 (record { start = base + offset + 2; len = 4; bytes = r.step.identifier })
-  pub text : (k : ℕ) (v : View) → r.step.item ≡ Item.Refused (ItemRefusal.Other (Refusal.InvalidUpidContent k v)) → WholeText s (base + offset + 6) k (in_lent base loop v)
+  pub text : (k : ℕ) (v : View) → r.step.item ≡ Some (Err (ItemRefusal.Other (Refusal.InvalidUpidContent k v))) → WholeText s (base + offset + 6) k (in_lent base loop v)
 
 -- the item that is read at an offset of a section's loop
 abbrev pub WholeAt : List ℕ → Section → ℕ → Reading → Type 0

@@ -8,7 +8,6 @@ use borrow.Author.Tests.{le-leb, lt-leb, lt-ltb, le-ltb, eqb-true, leb-false}
 use lib.Dec.{eqb, leb, ltb}
 use lib.ListN.{length, get_or}
 use Rattle.bit_stores.specs.Written.{answer_of}
-use Rattle.bit_stores.specs.declared.Written.{Written}
 use Rattle.descriptor_loop.proofs.Lists.{walked}
 use Rattle.descriptor_loop.specs.Items.{step_of, Listed, items_of}
 use Rattle.descriptor_loop.specs.declared.Step.{Step}
@@ -24,7 +23,6 @@ use Rattle.upid.proofs.Answers.{parts_of_mid}
 use Rattle.relabel_upid.specs.Relabel.{instead, part_at, replaced_in, taken, top_made, part_made, upid_made}
 use Rattle.section.specs.Section.{command_length, loop_length, loop_bytes, section_of, number_of}
 use Rattle.section.specs.declared.Section.{Section}
-use Rattle.section.specs.declared.SectionRead.{SectionRead}
 use Rattle.table.specs.Bits.{pick}
 use Rattle.table.specs.Writing.{made, refused}
 use Rattle.theorems_reader.proofs.Sections.{each_item}
@@ -36,9 +34,9 @@ use Rattle.upid.specs.Cover.All.{none, more}
 use Rattle.upid.specs.Private.{Accepted}
 use Rattle.upid.specs.Upid.{check_of, read_of, upid_of, parts_in, list_of}
 use Rattle.upid.specs.declared.Part.{Part}
-use Rattle.upid.specs.declared.UpidRead.{UpidRead}
 use Rattle.theorems_relabel.specs.Answered.{no_active, no_part, unfit, size_then, in_accepted, answered}
 use Rattle.theorems_relabel.specs.Replaced.{Request, run_of, upid_for, type_for}
+use Rattle.std.proofs.Common.{Ok, Err, Result}
 
 -- ---- the item
 
@@ -57,7 +55,7 @@ found_is : (loop : List ℕ) (offset : ℕ) → not (begins (items_of loop) offs
 unfolding found
 found_is loop offset = refl
 
-is_taken : (k : ℕ) → taken (UpidRead.Fine k) ≡ true
+is_taken : (k : ℕ) → taken (Ok k) ≡ true
 unfolding taken
 is_taken k = refl
 
@@ -72,7 +70,7 @@ module _ (sec : List ℕ) (lenpay L S n b r m T : ℕ) (ep : lenpay ≡ L - 4 - 
 
   fit_answer : (target : List ℕ) → length target ≡ T
       → answer_of (pick (leb lenpay 250 && leb (length sec) 4096) (made sec) (refused 34)) target
-      ≡ pick (ltb 254 (L - r + m) || ltb 4096 (S - r + m)) (Written.Refused 34) (pick (ltb T (S - r + m)) (Written.Refused 36) (Written.Wrote (S - r + m)))
+      ≡ pick (ltb 254 (L - r + m) || ltb 4096 (S - r + m)) (Err 34) (pick (ltb T (S - r + m)) (Err 36) (Ok (S - r + m)))
   unfolding answer_of
   fit_answer target et =
       by_cases 250 lenpay
@@ -88,16 +86,16 @@ module _ (sec : List ℕ) (lenpay L S n b r m T : ℕ) (ep : lenpay ≡ L - 4 - 
 -- ---- the UPID
 
 -- what is answered from 34 on
-abbrev sized : Request → ℕ → Written
+abbrev sized : Request → ℕ → Result ℕ ℕ
 sized q room =
-    pick (ltb 254 (size_then q (get_or (loop_bytes q.section) (q.offset + 1) 0)) || ltb 4096 (size_then q (length q.section))) (Written.Refused 34)
-    (pick (ltb room (size_then q (length q.section))) (Written.Refused 36) (Written.Wrote (size_then q (length q.section))))
+    pick (ltb 254 (size_then q (get_or (loop_bytes q.section) (q.offset + 1) 0)) || ltb 4096 (size_then q (length q.section))) (Err 34)
+    (pick (ltb room (size_then q (length q.section))) (Err 36) (Ok (size_then q (length q.section))))
 
-abbrev ordered : Request → ℕ → Written
+abbrev ordered : Request → ℕ → Result ℕ ℕ
 ordered q room =
-    pick (no_part (type_for q) (upid_for q) q.part) (Written.Refused 41)
-    (pick (ltb 255 (size_then q (length (upid_for q)))) (Written.Refused 32)
-    (pick (unfit q.part q.upid_type q.bytes) (Written.Refused 33) (sized q room)))
+    pick (no_part (type_for q) (upid_for q) q.part) (Err 41)
+    (pick (ltb 255 (size_then q (length (upid_for q)))) (Err 32)
+    (pick (unfit q.part q.upid_type q.bytes) (Err 33) (sized q room)))
 
 module _ (s : List ℕ) (offset k : ℕ) (new target : List ℕ) (at : Spotted s offset) (x : ActiveAt (loop_bytes s) offset) where
   abbrev top : List ℕ
@@ -126,7 +124,7 @@ module _ (s : List ℕ) (offset k : ℕ) (new target : List ℕ) (at : Spotted s
         rw (fine, z) (go (eqb (length top) 0) (ltb 255 (length new)) (eqb (length new) 0 || not (taken (read_of k 0 new))))
       where
         go : (t u v : Bool) → answer_of (fitting s offset 0 k (pick (t || false) (refused 41) (pick u (refused 32) (pick v (refused 33) (made new))))) target
-            ≡ pick t (Written.Refused 41) (pick u (Written.Refused 32) (pick v (Written.Refused 33) (sized (asked 0) (length target))))
+            ≡ pick t (Err 41) (pick u (Err 32) (pick v (Err 33) (sized (asked 0) (length target))))
         go true u v = refl
         go false true v = refl
         go false false true = refl
@@ -166,7 +164,7 @@ module _ (s : List ℕ) (offset k : ℕ) (new target : List ℕ) (at : Spotted s
 
       after_there : There → size_then (asked (suc i)) (length top) ≡ then → (u v : Bool) → taken (read_of k 0 new) ≡ v
           → answer_of (fitting s offset (suc i) k (pick u (refused 32) (pick (not v) (refused 33) (made (replaced_in top ps i k new))))) target
-          ≡ pick u (Written.Refused 32) (pick (not v) (Written.Refused 33) (sized (asked (suc i)) (length target)))
+          ≡ pick u (Err 32) (pick (not v) (Err 33) (sized (asked (suc i)) (length target)))
       unfolding fitting answer_of
       after_there w z true v ev = refl
       after_there w z false false ev = refl
@@ -174,14 +172,14 @@ module _ (s : List ℕ) (offset k : ℕ) (new target : List ℕ) (at : Spotted s
 
       by_place : (t : Bool) → leb (length ps) i ≡ t
           → answer_of (fitting s offset (suc i) k (pick t (refused 41) (pick (ltb 255 then) (refused 32) (pick (not (taken (read_of k 0 new))) (refused 33) (made (replaced_in top ps i k new)))))) target
-          ≡ pick t (Written.Refused 41) (pick (ltb 255 (size_then (asked (suc i)) (length top))) (Written.Refused 32) (pick (not (taken (read_of k 0 new))) (Written.Refused 33) (sized (asked (suc i)) (length target))))
+          ≡ pick t (Err 41) (pick (ltb 255 (size_then (asked (suc i)) (length top))) (Err 32) (pick (not (taken (read_of k 0 new))) (Err 33) (sized (asked (suc i)) (length target))))
       unfolding fitting answer_of
       by_place true e = refl
       by_place false e =
           let w = there (leb-false _ _ e) in
           let z : size_then (asked (suc i)) (length top) ≡ then = ap (λ (n : ℕ). length top - n + length new) w.size in
           after_there w z (ltb 255 then) (taken (read_of k 0 new)) refl
-          ∙ ap (λ (n : ℕ). pick (ltb 255 n) (Written.Refused 32) (pick (not (taken (read_of k 0 new))) (Written.Refused 33) (sized (asked (suc i)) (length target)))) (sym z)
+          ∙ ap (λ (n : ℕ). pick (ltb 255 n) (Err 32) (pick (not (taken (read_of k 0 new))) (Err 33) (sized (asked (suc i)) (length target)))) (sym z)
 
       part_answer : answer_of (fitting s offset (suc i) k (part_made upid_type_number top i k new)) target ≡ ordered (asked (suc i)) (length target)
       unfolding part_made no_part unfit
@@ -201,7 +199,7 @@ module _ (q : Request) (target : List ℕ) (bytes : (j : ℕ) → get_or q.secti
   abbrev loop : List ℕ
   loop = loop_bytes s
 
-  in_loop : (x : Section) → section_of s ≡ SectionRead.Is x → answer_of (loop_made s q.offset q.part q.upid_type q.bytes) target ≡ in_accepted q (length target)
+  in_loop : (x : Section) → section_of s ≡ Ok x → answer_of (loop_made s q.offset q.part q.upid_type q.bytes) target ≡ in_accepted q (length target)
   unfolding loop_made in_accepted answer_of
   in_loop x e =
       let f = framing s x e in
@@ -211,7 +209,7 @@ module _ (q : Request) (target : List ℕ) (bytes : (j : ℕ) → get_or q.secti
     where
       go : Framing s x → (b : Bool) → found loop q.offset ≡ b
           → answer_of (pick b (fitting s q.offset q.part q.upid_type (upid_made (type_for q) (upid_for q) q.part q.upid_type q.bytes)) (refused 41)) target
-          ≡ pick (not b) (Written.Refused 41) (ordered q (length target))
+          ≡ pick (not b) (Err 41) (ordered q (length target))
       go f false ef = refl
       go f true ef =
           let at = spotted s q.offset bytes f.fits f.short ef in
@@ -221,7 +219,7 @@ module _ (q : Request) (target : List ℕ) (bytes : (j : ℕ) → get_or q.secti
           let ek = type_in_lem (payload_in s q.offset) _ _ h in
           let eu = upid_in_lem (payload_in s q.offset) _ _ h in
           let et : length (upid_for q) ≡ size_in (payload_in s q.offset) = ap length (sym eu) ∙ size_in_lem (payload_in s q.offset) _ _ h in
-          let fine : check_of (type_for q) (upid_for q) ≡ UpidRead.Fine h.reported = ap₂ check_of (sym ek) (sym eu) ∙ h.fine in
+          let fine : check_of (type_for q) (upid_for q) ≡ Ok h.reported = ap₂ check_of (sym ek) (sym eu) ∙ h.fine in
           upid_answer_lem s q.offset q.upid_type q.bytes target at x et (ap taken fine ∙ is_taken h.reported) q.part
 
   pub answers : answer_of (relabel_made s q.offset q.part q.upid_type q.bytes) target ≡ answered q (length target)
@@ -229,6 +227,6 @@ module _ (q : Request) (target : List ℕ) (bytes : (j : ℕ) → get_or q.secti
   answers = rw (← refusals_1_to_11_in_order s) (go (eqb (number_of (section_of s)) 0) refl)
     where
       go : (b : Bool) → eqb (number_of (section_of s)) 0 ≡ b
-          → answer_of (pick b (loop_made s q.offset q.part q.upid_type q.bytes) (refused (number_of (section_of s)))) target ≡ pick b (in_accepted q (length target)) (Written.Refused (number_of (section_of s)))
+          → answer_of (pick b (loop_made s q.offset q.part q.upid_type q.bytes) (refused (number_of (section_of s)))) target ≡ pick b (in_accepted q (length target)) (Err (number_of (section_of s)))
       go false e = refl
       go true e = let x = accepted_of (section_of s) e in in_loop x.0 x.1

@@ -3,7 +3,6 @@ use Prim.Native.Nat.{ℕ}
 use mathlib.Core.List.{List}
 use mathlib.Core.Path.{◌≡◌, sym, ◌∙◌, ap}
 use Rattle.bit_stores.specs.Written.{answer_of, later_of}
-use Rattle.bit_stores.specs.declared.Written.{Written}
 use Rattle.c_command_writer.specs.Words.{flat_written}
 use Rattle.c_command_writer.specs.declared.FlatWritten.{FlatWritten}
 use Rattle.relabel.specs.Relabel.{relabel_made}
@@ -12,22 +11,23 @@ use Rattle.theorems_c.specs.Boards.{May}
 use Rattle.relabel.proofs.relabel.Reads as relabel
 use Rattle.scte35.proofs.relabelling.scte35_relabel.Reads as scte35_relabel
 use Rattle.theorems_relabel.specs.Replaced.{Request}
+use Rattle.std.proofs.Common.{Result}
 
 abbrev pub made_for : Request → Made
 made_for q = relabel_made q.section q.offset q.part q.upid_type q.bytes
 
 -- `relabel` of what is asked, with this target, may answer this and leave the target so
-abbrev pub Relabels : Request → List ℕ → Written → List ℕ → Type 0
+abbrev pub Relabels : Request → List ℕ → Result ℕ ℕ → List ℕ → Type 0
 Relabels q target answer later =
-    May relabel.Learnt {S = Request × List ℕ} {T = Written × List ℕ}
+    May relabel.Learnt {S = Request × List ℕ} {T = Result ℕ ℕ × List ℕ}
     (λ κ a. (record { section = a.0.now; offset = a.1.0; part = a.1.1.0; upid_type = a.1.1.1.0; bytes = a.1.1.1.1.0.now }, a.1.1.1.1.1.0.now))
     (λ κ r e. (r, e.1.1.1.1.1.0.now)) (q, target) (answer, later)
 
-pub relabels_so : {q : Request} {target : List ℕ} {answer : Written} {later : List ℕ} → Relabels q target answer later
+pub relabels_so : {q : Request} {target : List ℕ} {answer : Result ℕ ℕ} {later : List ℕ} → Relabels q target answer later
     → (answer ≡ answer_of (made_for q) target) × (later ≡ later_of (made_for q) target)
 relabels_so d = (
-  sym (ap (λ (v : Written × List ℕ). v.0) d.left) ∙ d.learnt_so.0 ∙ ap (λ (v : Request × List ℕ). answer_of (made_for v.0) v.1) d.taken,
-  sym (ap (λ (v : Written × List ℕ). v.1) d.left) ∙ d.learnt_so.1 ∙ ap (λ (v : Request × List ℕ). later_of (made_for v.0) v.1) d.taken,
+  sym (ap (λ (v : Result ℕ ℕ × List ℕ). v.0) d.left) ∙ d.learnt_so.0 ∙ ap (λ (v : Request × List ℕ). answer_of (made_for v.0) v.1) d.taken,
+  sym (ap (λ (v : Result ℕ ℕ × List ℕ). v.1) d.left) ∙ d.learnt_so.1 ∙ ap (λ (v : Request × List ℕ). later_of (made_for v.0) v.1) d.taken,
 )
 
 -- the same of `scte35_relabel`

@@ -15,7 +15,6 @@ use Rattle.descriptor.specs.declared.segmentation.SegmentationDetail.{Segmentati
 use Rattle.descriptor.specs.declared.segmentation.SegmentationUpid.{SegmentationUpid}
 use Rattle.descriptor_loop.proofs.Lists.{walked}
 use Rattle.descriptor_loop.specs.Items.{step_of, reading_of, Listed, listed, items_of}
-use Rattle.descriptor_loop.specs.declared.Item.{Item}
 use Rattle.relabel.proofs.Cuts.{run_byte, pay_is, type_is, size_is, old_is, upid_is_lem, spotted, loop_there}
 use Rattle.relabel.proofs.Mades.{framing}
 use Rattle.relabel_found.proofs.Actives.{active_at_lem, hole_at, byte_in, upid_in_lem, size_in_lem}
@@ -27,7 +26,6 @@ use Rattle.relabel_payload.specs.Payload.{upid_head}
 use Rattle.relabel_upid.specs.Kept.{Identifier, identifiers_of, identifiers_in}
 use Rattle.section.specs.Section.{command_length, loop_length, loop_bytes, section_of, loop_in}
 use Rattle.section.specs.declared.Section.{Section}
-use Rattle.section.specs.declared.SectionRead.{SectionRead}
 use Rattle.table.specs.Bits.{pick, AllBytes}
 use Rattle.table.specs.Lent.{viewed}
 use Rattle.theorems_reader.proofs.Framed.{laid}
@@ -40,6 +38,8 @@ use Rattle.upid.specs.Cover.{All}
 use Rattle.upid.specs.Cover.All.{none, more}
 use Rattle.theorems_relabel.specs.Readings.{ReadAs, DetailAs, ItemAs, ListedAs}
 use Rattle.theorems_relabel.proofs.Numbers.{all_at}
+use Rattle.std.proofs.Common.{Ok, Err, Some, None, Option, Result}
+use Rattle.descriptor_loop.specs.declared.ItemRefusal.{ItemRefusal}
 
 -- ---- the same place
 
@@ -160,7 +160,7 @@ not_listed : (loop : List ℕ) (o : ℕ) → is_active (step_of loop o).item ≡
 unfolding of_item
 not_listed loop o h = ap (λ (b : Bool). pick b (of_payload (take ((step_of loop o).next - o - 6) (drop (o + 6) loop))) []) h
 
-module _ (s : List ℕ) (x : Section) (e : section_of s ≡ SectionRead.Is x) (a : AllBytes s) where
+module _ (s : List ℕ) (x : Section) (e : section_of s ≡ Ok x) (a : AllBytes s) where
   abbrev list : List ℕ
   list = loop_bytes s
 
@@ -174,7 +174,7 @@ module _ (s : List ℕ) (x : Section) (e : section_of s ≡ SectionRead.Is x) (a
     abbrev ids : List Identifier
     ids = of_item list (listed list o)
 
-    active_as : (d : SegmentationDescriptor) (i : SegmentationDetail) → (step_of list o).item ≡ Item.Is (Descriptor.Segmentation d) → d.descriptor_detail ≡ DescriptorDetail.Active i
+    active_as : (d : SegmentationDescriptor) (i : SegmentationDetail) → (step_of list o).item ≡ Some (Ok (Descriptor.Segmentation d)) → d.descriptor_detail ≡ DescriptorDetail.Active i
         → is_active (step_of list o).item ≡ true → (ids ≡ of_payload (payload_at list o)) × ReadAs (payload_at list o) list eidr i.segmentation_upid
     active_as d i st detail is_so =
         let f = found_there list o b is_so in
@@ -185,23 +185,23 @@ module _ (s : List ℕ) (x : Section) (e : section_of s ≡ SectionRead.Is x) (a
         let h = hole_at list o byte_of (active_at_lem list o f) in
         let el : length (upid_in (payload_in s o)) ≡ size_in (payload_in s o) = ap length (sym (upid_in_lem (payload_in s o) _ _ h)) ∙ size_in_lem (payload_in s o) _ _ h in
         let w : WholeUpid s (upid_at s (x.descriptors.at + o + 6)) x.descriptors.at list eidr i.segmentation_upid =
-        subst (λ (l : List ℕ). (step_of l o).item ≡ Item.Is (Descriptor.Segmentation d) → WholeUpid s (upid_at s (x.descriptors.at + o + 6)) x.descriptors.at l (reading_of l o).beside.eidr i.segmentation_upid) loop_here
+        subst (λ (l : List ℕ). (step_of l o).item ≡ Some (Ok (Descriptor.Segmentation d)) → WholeUpid s (upid_at s (x.descriptors.at + o + 6)) x.descriptors.at l (reading_of l o).beside.eidr i.segmentation_upid) loop_here
         (λ z. demands.every_upid_of_the_section_is_whole s x e o d i z detail a) st in
         (payload_of_lem list o f is_so, read_as_lem s o x.descriptors.at list eidr i.segmentation_upid at fr.at el w)
 
-    detail_as : (d : SegmentationDescriptor) → (step_of list o).item ≡ Item.Is (Descriptor.Segmentation d) → (t : DescriptorDetail) → d.descriptor_detail ≡ t
+    detail_as : (d : SegmentationDescriptor) → (step_of list o).item ≡ Some (Ok (Descriptor.Segmentation d)) → (t : DescriptorDetail) → d.descriptor_detail ≡ t
         → DetailAs (payload_at list o) list eidr ids t
     detail_as d st DescriptorDetail.Cancel h = not_listed list o (ap is_active st ∙ ap (λ (t : DescriptorDetail). not (cancelled t)) h)
     detail_as d st (DescriptorDetail.Active i) h = active_as d i st h (ap is_active st ∙ ap (λ (t : DescriptorDetail). not (cancelled t)) h)
 
-    item_as : (it : Item) → (step_of list o).item ≡ it → ItemAs (payload_at list o) list eidr ids it
-    item_as Item.End st = not_listed list o (ap is_active st)
-    item_as (Item.Refused r) st = not_listed list o (ap is_active st)
-    item_as (Item.Is (Descriptor.Avail y)) st = not_listed list o (ap is_active st)
-    item_as (Item.Is (Descriptor.Dtmf y)) st = not_listed list o (ap is_active st)
-    item_as (Item.Is (Descriptor.Segmentation d)) st = detail_as d st d.descriptor_detail refl
-    item_as (Item.Is (Descriptor.Time y)) st = not_listed list o (ap is_active st)
-    item_as (Item.Is (Descriptor.Reserved tag v)) st = not_listed list o (ap is_active st)
+    item_as : (it : Option (Result Descriptor ItemRefusal)) → (step_of list o).item ≡ it → ItemAs (payload_at list o) list eidr ids it
+    item_as None st = not_listed list o (ap is_active st)
+    item_as (Some (Err r)) st = not_listed list o (ap is_active st)
+    item_as (Some (Ok (Descriptor.Avail y))) st = not_listed list o (ap is_active st)
+    item_as (Some (Ok (Descriptor.Dtmf y))) st = not_listed list o (ap is_active st)
+    item_as (Some (Ok (Descriptor.Segmentation d))) st = detail_as d st d.descriptor_detail refl
+    item_as (Some (Ok (Descriptor.Time y))) st = not_listed list o (ap is_active st)
+    item_as (Some (Ok (Descriptor.Reserved tag v))) st = not_listed list o (ap is_active st)
 
   pub listed_as : All (ListedAs list) (items_of list)
   listed_as =

@@ -8,7 +8,6 @@ use borrow.Author.Tests.{ne_eqb, eqb-true, eqb-false, le-leb}
 use lib.Dec.{eqb, ltb}
 use lib.ListN.{length, get_or, take, drop}
 use Rattle.bit_stores.specs.Written.{answer_of, later_of}
-use Rattle.bit_stores.specs.declared.Written.{Written}
 use Rattle.relabel.proofs.Ats.{some_made}
 use Rattle.relabel.specs.Relabel.{relabel_made}
 use Rattle.relabel_laws.proofs.Theorems.{the_list_is_the_old_one_with_that_one_replaced}
@@ -28,6 +27,7 @@ use Rattle.upid.specs.Private.{Accepted}
 use Rattle.upid.specs.Upid.{check_of, read_of, upid_of, parts_in, list_of}
 use Rattle.upid.specs.declared.Part.{Part}
 use Rattle.theorems_relabel.specs.Replaced.{Request, level_of, type_of, run_of, upid_for, type_for, Relabelled}
+use Rattle.std.proofs.Common.{Ok, Result}
 
 -- ---- a UPID by itself
 
@@ -145,7 +145,7 @@ module _ (q : Request) (r : List ℕ) (bytes : (j : ℕ) → get_or q.section j 
 
 -- what stands in the target when it was written
 pub written : (q : Request) (target later : List ℕ) (n : ℕ) → ((j : ℕ) → get_or q.section j 0 < 256) → q.upid_type < 256
-    → answer_of (relabel_made q.section q.offset q.part q.upid_type q.bytes) target ≡ Written.Wrote n → later ≡ later_of (relabel_made q.section q.offset q.part q.upid_type q.bytes) target
+    → answer_of (relabel_made q.section q.offset q.part q.upid_type q.bytes) target ≡ Ok n → later ≡ later_of (relabel_made q.section q.offset q.part q.upid_type q.bytes) target
     → Relabelled q (take n later) × (drop n later ≡ drop n target) × (length later ≡ length target)
 written q target later n bytes byte e l =
     let c = an_accepted_write_changes_only_its_result _ target n e in
@@ -154,13 +154,13 @@ written q target later n bytes byte e l =
 
 -- and that it is what is made
 pub made_so : (q : Request) (target later : List ℕ) (n : ℕ)
-    → answer_of (relabel_made q.section q.offset q.part q.upid_type q.bytes) target ≡ Written.Wrote n → later ≡ later_of (relabel_made q.section q.offset q.part q.upid_type q.bytes) target
+    → answer_of (relabel_made q.section q.offset q.part q.upid_type q.bytes) target ≡ Ok n → later ≡ later_of (relabel_made q.section q.offset q.part q.upid_type q.bytes) target
     → relabel_made q.section q.offset q.part q.upid_type q.bytes ≡ made (take n later)
 made_so q target later n e l =
     let c = an_accepted_write_changes_only_its_result _ target n e in
     c.is ∙ ap made (sym (ap (take n) l ∙ c.start))
 
-fits : (b target : List ℕ) → length b ≤ length target → answer_of (made b) target ≡ Written.Wrote (length b)
+fits : (b target : List ℕ) → length b ≤ length target → answer_of (made b) target ≡ Ok (length b)
 unfolding answer_of
 fits b target h = rw (le-leb (length b) (length target) h)
 
@@ -169,9 +169,9 @@ unfolding bytes_in
 one_made x y e = ap bytes_in e
 
 -- what is made and fits stands in the target
-pub stands : (m : Made) (b target later : List ℕ) (answer : Written) → m ≡ made b → answer ≡ answer_of m target → later ≡ later_of m target → length b ≤ length target
-    → (answer ≡ Written.Wrote (length b)) × (take (length b) later ≡ b)
+pub stands : (m : Made) (b target later : List ℕ) (answer : Result ℕ ℕ) → m ≡ made b → answer ≡ answer_of m target → later ≡ later_of m target → length b ≤ length target
+    → (answer ≡ Ok (length b)) × (take (length b) later ≡ b)
 stands m b target later answer e a l h =
-    let w : answer_of m target ≡ Written.Wrote (length b) = ap (λ (x : Made). answer_of x target) e ∙ fits b target h in
+    let w : answer_of m target ≡ Ok (length b) = ap (λ (x : Made). answer_of x target) e ∙ fits b target h in
     let c = an_accepted_write_changes_only_its_result m target (length b) w in
     (a ∙ w, ap (take (length b)) l ∙ c.start ∙ one_made c.result b (sym c.is ∙ e))

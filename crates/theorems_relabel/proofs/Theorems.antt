@@ -8,7 +8,6 @@ use mathlib.Core.List.{List}
 use mathlib.Core.Path.{◌≡◌, refl, sym, subst, ◌∙◌, ap}
 use lib.ListN.{length, take, drop}
 use Rattle.bit_stores.specs.Written.{answer_of}
-use Rattle.bit_stores.specs.declared.Written.{Written}
 use Rattle.c_command_writer.specs.Words.{flat_written}
 use Rattle.c_command_writer.specs.declared.FlatWritten.{FlatWritten}
 use Rattle.canonical_form.specs.Section.{canonical_section}
@@ -20,7 +19,6 @@ use Rattle.relabel_trips.specs.Cutting.{CutAt}
 use Rattle.relabel_trips.specs.Named.{Named}
 use Rattle.section.specs.Section.{loop_bytes, section_of}
 use Rattle.section.specs.declared.Section.{Section}
-use Rattle.section.specs.declared.SectionRead.{SectionRead}
 use Rattle.table.specs.Bits.{AllBytes}
 use Rattle.theorems_writer.proofs.Theorems as demands
 use Rattle.transport_packet.specs.Sections.{Right}
@@ -34,48 +32,49 @@ use Rattle.theorems_relabel.proofs.Numbers.{all_at, Some, some_answered, length_
 use Rattle.theorems_relabel.proofs.Readings as readings
 use Rattle.theorems_relabel.proofs.Replaced as replaced
 use Rattle.upid.specs.Cover.{All}
+use Rattle.std.proofs.Common.{Ok, Err, Result}
 
 -- ---- of `relabel`
 
 -- "Refusals in order: 1 to 11 for the section; 41 ..; 32 ..; 33 ..; 34 ..; 36", and nothing else is refused: then so many bytes are written
-pub relabel_answers_in_order : (q : Request) (target : List ℕ) (answer : Written) (later : List ℕ) → AllBytes q.section → Relabels q target answer later → answer ≡ answered q (length target)
+pub relabel_answers_in_order : (q : Request) (target : List ℕ) (answer : Result ℕ ℕ) (later : List ℕ) → AllBytes q.section → Relabels q target answer later → answer ≡ answered q (length target)
 relabel_answers_in_order q target answer later bytes d = (relabels_so d).0 ∙ answered.answers q target (all_at q.section bytes)
 
 -- "A refused write changes no byte"
-pub a_refused_relabelling_changes_no_byte : (q : Request) (target later : List ℕ) (n : ℕ) → Relabels q target (Written.Refused n) later → later ≡ target
+pub a_refused_relabelling_changes_no_byte : (q : Request) (target later : List ℕ) (n : ℕ) → Relabels q target (Err n) later → later ≡ target
 a_refused_relabelling_changes_no_byte q target later n d = (relabels_so d).1 ∙ demands.a_refused_write_changes_no_byte (made_for q) target n (sym (relabels_so d).0)
 
 -- "an accepted one only its result": it is accepted, the list of its identifiers is the old list with that one replaced, the new one whole
-pub a_relabelled_section_keeps_every_other_identifier : (q : Request) (target later : List ℕ) (n : ℕ) → AllBytes q.section → q.upid_type < 256 → Relabels q target (Written.Wrote n) later
+pub a_relabelled_section_keeps_every_other_identifier : (q : Request) (target later : List ℕ) (n : ℕ) → AllBytes q.section → q.upid_type < 256 → Relabels q target (Ok n) later
     → Relabelled q (take n later) × (drop n later ≡ drop n target) × (length later ≡ length target)
 a_relabelled_section_keeps_every_other_identifier q target later n bytes byte d =
     replaced.written q target later n (all_at q.section bytes) byte (sym (relabels_so d).0) (relabels_so d).1
 
 -- "Canonical in, canonical out"
-pub a_canonical_section_is_canonical_when_relabelled : (q : Request) (target later : List ℕ) (n : ℕ) → AllBytes q.section → q.upid_type < 256 → Relabels q target (Written.Wrote n) later
+pub a_canonical_section_is_canonical_when_relabelled : (q : Request) (target later : List ℕ) (n : ℕ) → AllBytes q.section → q.upid_type < 256 → Relabels q target (Ok n) later
     → canonical_section q.section ≡ true → canonical_section (take n later) ≡ true
 a_canonical_section_is_canonical_when_relabelled q target later n bytes byte d c =
     canonical_in_canonical_out q.section q.offset q.part q.upid_type q.bytes (take n later) (all_at q.section bytes) byte c
     (replaced.made_so q target later n (sym (relabels_so d).0) (relabels_so d).1)
 
 -- "No other byte changes": each is a byte of the old section in its order, of the new identifier or its head, a length that counts it, or of the CRC
-pub every_byte_of_a_relabelled_section_is_accounted_for : (q : Request) (target later : List ℕ) (n : ℕ) → AllBytes q.section → q.upid_type < 256 → Relabels q target (Written.Wrote n) later
+pub every_byte_of_a_relabelled_section_is_accounted_for : (q : Request) (target later : List ℕ) (n : ℕ) → AllBytes q.section → q.upid_type < 256 → Relabels q target (Ok n) later
     → CutAt q.section q.offset q.part q.upid_type q.bytes (take n later)
 every_byte_of_a_relabelled_section_is_accounted_for q target later n bytes byte d =
     trips.every_byte_is_accounted_for q.section q.offset q.part q.upid_type q.bytes (take n later) (all_at q.section bytes) byte
     (replaced.made_so q target later n (sym (relabels_so d).0) (relabels_so d).1)
 
 -- "Relabelling with the identifier that is there changes nothing", where section_length is right and the target is long enough
-pub relabelling_with_what_is_there_changes_nothing : (s : List ℕ) (offset part : ℕ) (target : List ℕ) (answer : Written) (later : List ℕ) → AllBytes s → Right s → Named s offset part
-    → Relabels (put_back s offset part s) target answer later → length s ≤ length target → (answer ≡ Written.Wrote (length s)) × (take (length s) later ≡ s)
+pub relabelling_with_what_is_there_changes_nothing : (s : List ℕ) (offset part : ℕ) (target : List ℕ) (answer : Result ℕ ℕ) (later : List ℕ) → AllBytes s → Right s → Named s offset part
+    → Relabels (put_back s offset part s) target answer later → length s ≤ length target → (answer ≡ Ok (length s)) × (take (length s) later ≡ s)
 relabelling_with_what_is_there_changes_nothing s offset part target answer later bytes right n d h =
     replaced.stands (made_for (put_back s offset part s)) s target later answer (trips.the_same_identifier_changes_nothing_of_the_section s offset part (all_at s bytes) right n)
     (relabels_so d).0 (relabels_so d).1 h
 
 -- "relabelling and then relabelling back gives the old section", where its section_length was right
-pub a_section_relabelled_back_is_the_old_one : (q : Request) (target later : List ℕ) (n : ℕ) (second : List ℕ) (answer : Written) (then : List ℕ) → AllBytes q.section → q.upid_type < 256
-    → Right q.section → Relabels q target (Written.Wrote n) later → Relabels (put_back q.section q.offset q.part (take n later)) second answer then
-    → length q.section ≤ length second → (answer ≡ Written.Wrote (length q.section)) × (take (length q.section) then ≡ q.section)
+pub a_section_relabelled_back_is_the_old_one : (q : Request) (target later : List ℕ) (n : ℕ) (second : List ℕ) (answer : Result ℕ ℕ) (then : List ℕ) → AllBytes q.section → q.upid_type < 256
+    → Right q.section → Relabels q target (Ok n) later → Relabels (put_back q.section q.offset q.part (take n later)) second answer then
+    → length q.section ≤ length second → (answer ≡ Ok (length q.section)) × (take (length q.section) then ≡ q.section)
 a_section_relabelled_back_is_the_old_one q target later n second answer then bytes byte right d b h =
     replaced.stands (made_for (put_back q.section q.offset q.part (take n later))) q.section second then answer
     (trips.relabelled_back_is_the_old_section q.section q.offset q.part q.upid_type q.bytes (take n later) (all_at q.section bytes) byte right
@@ -100,14 +99,14 @@ a_relabelled_section_over_c_keeps_every_other_identifier q target answer later b
     let at = all_at q.section bytes in
     let some : Some (answer_of (made_for q) target) = subst Some (sym (answered.answers q target at)) (some_answered q (length target)) in
     let w = length_of_lem (answer_of (made_for q) target) some (ap (λ (v : FlatWritten). v.refusal) (sym (relabels_c_so d).0) ∙ none) in
-    replaced.written q target later answer.«length» at byte (w ∙ ap (λ (v : FlatWritten). Written.Wrote v.«length») (sym (relabels_c_so d).0)) (relabels_c_so d).1
+    replaced.written q target later answer.«length» at byte (w ∙ ap (λ (v : FlatWritten). Ok v.«length») (sym (relabels_c_so d).0)) (relabels_c_so d).1
 
 -- ---- the list of identifiers
 
 -- The list that these statements speak of is, item by item, of the UPIDs that the readers hand out: of a UPID its type as it is written and its very bytes (an EIDR's by
 -- value), of a MID the parts that `read_upid` lists of the bytes handed out, MIDs among them left out, as their bytes are those of their own parts; and of any other item
 -- nothing. So it is, but for the fields of other kinds, the list `identifiers_of` of theorems, which has all of these (`the_list_of_identifiers_is_complete`).
-pub the_list_is_of_the_upids_that_are_read : (s : List ℕ) (x : Section) → section_of s ≡ SectionRead.Is x → AllBytes s
+pub the_list_is_of_the_upids_that_are_read : (s : List ℕ) (x : Section) → section_of s ≡ Ok x → AllBytes s
     → (identifiers_in s ≡ each (loop_bytes s) (items_of (loop_bytes s))) × All (ListedAs (loop_bytes s)) (items_of (loop_bytes s))
 unfolding identifiers_in
 the_list_is_of_the_upids_that_are_read s x e a = (refl, readings.listed_as s x e a)

@@ -1,6 +1,5 @@
 -- What a relabelling answers, in words of its own: the first of these refusals that applies, or how many bytes are written. Sizes are counted from the old ones.
-use Rattle.std.specs.Prelude.{ℕ, zero, suc, ◌+◌, ◌-◌, Bool, true, not, ◌||◌, List, [], ◌∷◌, eqb, leb, ltb, length, get_or}
-use Rattle.bit_stores.specs.declared.Written.{Written}
+use Rattle.std.specs.Prelude.{ℕ, zero, suc, ◌+◌, ◌-◌, Bool, true, not, ◌||◌, List, [], ◌∷◌, eqb, leb, ltb, length, get_or, Ok, Err, Result}
 use Rattle.descriptor_loop.specs.Items.{Listed, items_of}
 use Rattle.relabel_found.specs.Found.{is_active}
 use Rattle.relabel_upid.specs.Relabel.{taken}
@@ -29,19 +28,19 @@ abbrev pub size_then : Request → ℕ → ℕ
 size_then q n = n - length (run_of (upid_for q) q.part) + length q.bytes
 
 -- 41, 32, 33, 34, 36 in this order, or the whole section's size; the target has `room` bytes
-unfoldable pub in_accepted : Request → ℕ → Written
+unfoldable pub in_accepted : Request → ℕ → Result ℕ ℕ
 in_accepted q room =
-    pick (no_active q.offset (items_of (loop_bytes q.section))) (Written.Refused 41)
-    (pick (no_part (type_for q) (upid_for q) q.part) (Written.Refused 41)
+    pick (no_active q.offset (items_of (loop_bytes q.section))) (Err 41)
+    (pick (no_part (type_for q) (upid_for q) q.part) (Err 41)
     -- 32: "more than 255 bytes of UPID"
-    (pick (ltb 255 (size_then q (length (upid_for q)))) (Written.Refused 32)
-    (pick (unfit q.part q.upid_type q.bytes) (Written.Refused 33)
+    (pick (ltb 255 (size_then q (length (upid_for q)))) (Err 32)
+    (pick (unfit q.part q.upid_type q.bytes) (Err 33)
     -- 34: "descriptor over 254 or section over 4,096"
-    (pick (ltb 254 (size_then q (get_or (loop_bytes q.section) (q.offset + 1) 0)) || ltb 4096 (size_then q (length q.section))) (Written.Refused 34)
+    (pick (ltb 254 (size_then q (get_or (loop_bytes q.section) (q.offset + 1) 0)) || ltb 4096 (size_then q (length q.section))) (Err 34)
     -- 36: "target too short"
-    (pick (ltb room (size_then q (length q.section))) (Written.Refused 36)
-    (Written.Wrote (size_then q (length q.section))))))))
+    (pick (ltb room (size_then q (length q.section))) (Err 36)
+    (Ok (size_then q (length q.section))))))))
 
 -- "1 to 11 for the section" come first
-unfoldable pub answered : Request → ℕ → Written
-answered q room = pick (eqb (first 1 (conditions q.section)) 0) (in_accepted q room) (Written.Refused (first 1 (conditions q.section)))
+unfoldable pub answered : Request → ℕ → Result ℕ ℕ
+answered q room = pick (eqb (first 1 (conditions q.section)) 0) (in_accepted q room) (Err (first 1 (conditions q.section)))

@@ -1,18 +1,18 @@
 -- The list of identifiers that relabelling speaks of (`identifiers_in`, relabel_laws) finds each UPID by the section's bytes; the readers hand out the UPIDs and parts that
 -- `identifiers_of` (theorems_reader/specs/Identifiers.antt) lists. What ties the two, of one item: `pay` is its payload, u the UPID that is read of it, and `eidr` what stands
 -- beside it in the reading.
-use Rattle.std.specs.Prelude.{ℕ, List, [], ◌∷◌, ◌≡◌, eqb, length}
+use Rattle.std.specs.Prelude.{ℕ, List, [], ◌∷◌, ◌≡◌, eqb, length, Ok, Err, Some, None, Option, Result}
 use Rattle.descriptor.specs.declared.Descriptor.{Descriptor}
 use Rattle.descriptor.specs.declared.segmentation.DescriptorDetail.{DescriptorDetail}
 use Rattle.descriptor.specs.declared.segmentation.SegmentationUpid.{SegmentationUpid}
 use Rattle.descriptor_loop.specs.Items.{Listed, reading_of}
-use Rattle.descriptor_loop.specs.declared.Item.{Item}
 use Rattle.relabel_found.specs.Found.{type_in, upid_in, payload_at}
 use Rattle.relabel_laws.specs.Identifiers.{of_payload, of_item}
 use Rattle.relabel_upid.specs.Kept.{Identifier, identifiers_in}
 use Rattle.table.specs.Bits.{pick}
 use Rattle.table.specs.Lent.{viewed}
 use Rattle.theorems_reader.specs.Identifiers.{parts_read}
+use Rattle.descriptor_loop.specs.declared.ItemRefusal.{ItemRefusal}
 
 pub record ReadAs (pay loop eidr : List ℕ) (u : SegmentationUpid) : Type 0 where
   -- its type is the one that is written there: 5 is told as 6, and an empty one is None
@@ -30,14 +30,14 @@ abbrev pub DetailAs : List ℕ → List ℕ → List ℕ → List Identifier →
 DetailAs pay loop eidr ids DescriptorDetail.Cancel = ids ≡ []
 DetailAs pay loop eidr ids (DescriptorDetail.Active i) = (ids ≡ of_payload pay) × ReadAs pay loop eidr i.segmentation_upid
 
-abbrev pub ItemAs : List ℕ → List ℕ → List ℕ → List Identifier → Item → Type 0
-ItemAs pay loop eidr ids Item.End = ids ≡ []
-ItemAs pay loop eidr ids (Item.Refused r) = ids ≡ []
-ItemAs pay loop eidr ids (Item.Is (Descriptor.Avail x)) = ids ≡ []
-ItemAs pay loop eidr ids (Item.Is (Descriptor.Dtmf x)) = ids ≡ []
-ItemAs pay loop eidr ids (Item.Is (Descriptor.Segmentation d)) = DetailAs pay loop eidr ids d.descriptor_detail
-ItemAs pay loop eidr ids (Item.Is (Descriptor.Time x)) = ids ≡ []
-ItemAs pay loop eidr ids (Item.Is (Descriptor.Reserved tag v)) = ids ≡ []
+abbrev pub ItemAs : List ℕ → List ℕ → List ℕ → List Identifier → Option (Result Descriptor ItemRefusal) → Type 0
+ItemAs pay loop eidr ids None = ids ≡ []
+ItemAs pay loop eidr ids (Some (Err r)) = ids ≡ []
+ItemAs pay loop eidr ids (Some (Ok (Descriptor.Avail x))) = ids ≡ []
+ItemAs pay loop eidr ids (Some (Ok (Descriptor.Dtmf x))) = ids ≡ []
+ItemAs pay loop eidr ids (Some (Ok (Descriptor.Segmentation d))) = DetailAs pay loop eidr ids d.descriptor_detail
+ItemAs pay loop eidr ids (Some (Ok (Descriptor.Time x))) = ids ≡ []
+ItemAs pay loop eidr ids (Some (Ok (Descriptor.Reserved tag v))) = ids ≡ []
 
 abbrev pub ListedAs : List ℕ → Listed → Type 0
 ListedAs loop y = ItemAs (payload_at loop y.offset) loop (reading_of loop y.offset).beside.eidr (of_item loop y) y.step.item

@@ -1,5 +1,5 @@
 -- What is claimed of a section in which one identifier was replaced: by the list of its identifiers (level, type as written, bytes; relabel_laws/specs).
-use Rattle.std.specs.Prelude.{ℕ, zero, suc, List, ◌∷◌, ◌++◌, ◌≡◌}
+use Rattle.std.specs.Prelude.{ℕ, zero, suc, List, ◌∷◌, ◌++◌, ◌≡◌, Ok}
 use Rattle.relabel.specs.Relabel.{payload_in}
 use Rattle.relabel_found.specs.Found.{type_in, upid_in}
 use Rattle.relabel_laws.specs.Identifiers.{identifiers_in}
@@ -8,7 +8,6 @@ use Rattle.relabel_upid.specs.Kept.{Identifier, identifiers_at, written_type}
 use Rattle.relabel_upid.specs.Relabel.{part_at}
 use Rattle.section.specs.Section.{section_of}
 use Rattle.section.specs.declared.Section.{Section}
-use Rattle.section.specs.declared.SectionRead.{SectionRead}
 use Rattle.upid.specs.Cover.{bytes_of}
 use Rattle.upid.specs.Upid.{upid_of, parts_in}
 
@@ -46,9 +45,9 @@ type_for q = type_in (payload_in q.section q.offset)
 pub record Relabelled (q : Request) (r : List ℕ) : Type 0 where
   -- it is accepted, and its header and command are those that it had
   pub old : Section
-  pub was : section_of q.section ≡ SectionRead.Is old
+  pub was : section_of q.section ≡ Ok old
   pub then : Section
-  pub accepted : section_of r ≡ SectionRead.Is then
+  pub accepted : section_of r ≡ Ok then
   pub header : then.header ≡ old.header
   pub command : then.command ≡ old.command
   -- the list of its identifiers is the old list with that one replaced: those before it and after it are the same, in the same order

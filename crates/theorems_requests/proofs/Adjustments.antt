@@ -8,39 +8,39 @@ use lib.Dec.{eqb, ltb}
 use borrow.Author.Tests.{eq-eqb, ne_eqb, lt-ltb, le-ltb, ltb-true, ltb-false, eqb-true, eqb-false}
 use Rattle.adjust.proofs.Laws.{adjust_is, adjust_wide, adjust_late, chain_is, chain_first, chain_second, undo_is}
 use Rattle.adjust.specs.Adjust.{moved_by, adjust_of, chain_of, undo_of}
-use Rattle.adjust.specs.declared.Adjustment.{Adjustment}
-use Rattle.adjust.specs.declared.Moved.{Moved}
 use Rattle.c_adjust.specs.FlatAdjust.{flat_moved, flat_adjustment}
 use Rattle.c_adjust.specs.declared.FlatAdjustment.{FlatAdjustment}
 use Rattle.c_section.specs.Flat.{flat_adjusted}
 use Rattle.c_section.specs.declared.headers.FlatAdjusted.{FlatAdjusted}
 use Rattle.scte35.specs.FlatNumber.{time_handed}
 use Rattle.splice_time.proofs.Times as times
-use Rattle.splice_time.specs.Time.{ticks, adjusted_of}
+use Rattle.splice_time.specs.Time.{ticks, adjusted_of, too_large}
 use Rattle.splice_time.specs.declared.SpliceTime.{SpliceTime}
 use Rattle.splice_time.specs.declared.SpliceTime.TheVariants.{Unspecified, At}
 use Rattle.table.proofs.Lists.{zero_one}
 use Rattle.table.specs.Bits.{pick}
 use Rattle.theorems_requests.specs.Adjustments.{TimeOverC, ChainedOverC, Back}
+use Rattle.std.proofs.Common.{Ok, Err, Result}
+use Rattle.splice_time.specs.declared.TooLarge.{TooLarge}
 
 -- ---- what was not refused
 
-pub moved_so : (t u : SpliceTime) (a : ℕ) → adjust_of t a ≡ Moved.Is u → (a < 2 ^ 33) × (ticks t < 2 ^ 33) × (moved_by a t ≡ u)
+pub moved_so : (t u : SpliceTime) (a : ℕ) → adjust_of t a ≡ Ok u → (a < 2 ^ 33) × (ticks t < 2 ^ 33) × (moved_by a t ≡ u)
 unfolding adjust_of
 moved_so t u a = go (ltb a (2 ^ 33)) refl (ltb (ticks t) (2 ^ 33)) refl
   where
     go : (f : Bool) → ltb a (2 ^ 33) ≡ f → (g : Bool) → ltb (ticks t) (2 ^ 33) ≡ g
-        → pick f (pick g (Moved.Is (moved_by a t)) Moved.TooLarge) Moved.TooLarge ≡ Moved.Is u → (a < 2 ^ 33) × (ticks t < 2 ^ 33) × (moved_by a t ≡ u)
+        → pick f (pick g (Ok (moved_by a t)) (Err too_large)) (Err too_large) ≡ Ok u → (a < 2 ^ 33) × (ticks t < 2 ^ 33) × (moved_by a t ≡ u)
     go true f true g e = (ltb-true a (2 ^ 33) f, ltb-true (ticks t) (2 ^ 33) g, cc)
     go true f false g e = zero_one cc
     go false f g k e = zero_one cc
 
-pub chained_so : (a b c : ℕ) → chain_of a b ≡ Adjustment.Is c → (a < 2 ^ 33) × (b < 2 ^ 33) × ((a + b) % 8589934592 ≡ c)
+pub chained_so : (a b c : ℕ) → chain_of a b ≡ Ok c → (a < 2 ^ 33) × (b < 2 ^ 33) × ((a + b) % 8589934592 ≡ c)
 unfolding chain_of
 chained_so a b c = go (ltb a (2 ^ 33)) refl (ltb b (2 ^ 33)) refl
   where
     go : (f : Bool) → ltb a (2 ^ 33) ≡ f → (g : Bool) → ltb b (2 ^ 33) ≡ g
-        → pick f (pick g (Adjustment.Is ((a + b) % 8589934592)) Adjustment.TooLarge) Adjustment.TooLarge ≡ Adjustment.Is c → (a < 2 ^ 33) × (b < 2 ^ 33) × ((a + b) % 8589934592 ≡ c)
+        → pick f (pick g (Ok ((a + b) % 8589934592)) (Err too_large)) (Err too_large) ≡ Ok c → (a < 2 ^ 33) × (b < 2 ^ 33) × ((a + b) % 8589934592 ≡ c)
     go true f true g e = (ltb-true a (2 ^ 33) f, ltb-true b (2 ^ 33) g, cc)
     go true f false g e = zero_one cc
     go false f g k e = zero_one cc
@@ -49,14 +49,14 @@ pub chain_either : (a b : ℕ) → chain_of a b ≡ chain_of b a
 unfolding chain_of
 chain_either a b = go (ltb a (2 ^ 33)) (ltb b (2 ^ 33))
   where
-    go : (f g : Bool) → pick f (pick g (Adjustment.Is ((a + b) % 8589934592)) Adjustment.TooLarge) Adjustment.TooLarge
-        ≡ pick g (pick f (Adjustment.Is ((b + a) % 8589934592)) Adjustment.TooLarge) Adjustment.TooLarge
-    go true true = ap (λ (n : ℕ). Adjustment.Is (n % 8589934592)) (add_comm a b)
+    go : (f g : Bool) → pick f (pick g (Ok ((a + b) % 8589934592)) (Err too_large)) (Err too_large)
+        ≡ pick g (pick f (Ok ((b + a) % 8589934592)) (Err too_large)) (Err too_large)
+    go true true = ap (λ (n : ℕ). Ok (n % 8589934592)) (add_comm a b)
     go true false = refl
     go false true = refl
     go false false = refl
 
-pub undone : (a : ℕ) → a < 2 ^ 33 → (u : ℕ) × (undo_of a ≡ Adjustment.Is u) × Back a u
+pub undone : (a : ℕ) → a < 2 ^ 33 → (u : ℕ) × (undo_of a ≡ Ok u) × Back a u
 undone a h = let u = (8589934592 - a) % 8589934592 in (u, undo_is a h, record { fits = omega arith; back = omega arith })
 
 -- ---- over C: the words of a time and of adjustments
@@ -105,10 +105,10 @@ pub undoes_over_c : (a : ℕ) → a < 2 ^ 33 → ((flat_adjustment (undo_of a)).
 unfolding flat_adjustment
 undoes_over_c a h = let u = undone a h in rw u.1 (refl, u.2)
 
-pub adjustment_over_c : (x : Adjustment) (f : FlatAdjustment) → f ≡ flat_adjustment x → f.refusal ≡ 0 → x ≡ Adjustment.Is f.adjustment
+pub adjustment_over_c : (x : Result ℕ TooLarge) (f : FlatAdjustment) → f ≡ flat_adjustment x → f.refusal ≡ 0 → x ≡ Ok f.adjustment
 unfolding flat_adjustment
-adjustment_over_c (Adjustment.Is a) f e z = ap Adjustment.Is (sym (ap (λ (v : FlatAdjustment). v.adjustment) e))
-adjustment_over_c Adjustment.TooLarge f e z = let q : f.refusal ≡ 32 = ap (λ (v : FlatAdjustment). v.refusal) e in absurd (omega (arith, q, z))
+adjustment_over_c (Ok a) f e z = ap Ok (sym (ap (λ (v : FlatAdjustment). v.adjustment) e))
+adjustment_over_c (Err too_large) f e z = let q : f.refusal ≡ 32 = ap (λ (v : FlatAdjustment). v.refusal) e in absurd (omega (arith, q, z))
 
 -- ---- what follows from the words alone
 

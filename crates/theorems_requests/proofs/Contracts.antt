@@ -2,14 +2,12 @@
 -- `..-so` is what the contract then says of it.
 use Prim.Native.Nat.{ℕ}
 use mathlib.Core.List.{List}
-use mathlib.Core.Path.{◌≡◌, sym, ◌∙◌, ap}
+use mathlib.Core.Path.{◌≡◌, sym, ◌∙◌, ap, ap₂}
 use lib.ListN.{drop}
+use Rattle.std.specs.Prelude.{Option, Result}
 use Rattle.adjust.specs.Adjust.{adjust_of, chain_of, undo_of}
-use Rattle.adjust.specs.declared.Adjustment.{Adjustment}
-use Rattle.adjust.specs.declared.Moved.{Moved}
 use Rattle.adjust_section.specs.Adjusted.{adjusted_section}
 use Rattle.bit_stores.specs.Written.{answer_of, later_of}
-use Rattle.bit_stores.specs.declared.Written.{Written}
 use Rattle.c_adjust.specs.FlatAdjust.{flat_moved, flat_adjustment}
 use Rattle.c_adjust.specs.declared.FlatAdjustment.{FlatAdjustment}
 use Rattle.c_command_writer.specs.Words.{flat_written}
@@ -19,23 +17,21 @@ use Rattle.c_section.specs.Flat.{flat_adjusted}
 use Rattle.c_section.specs.declared.headers.FlatAdjusted.{FlatAdjusted}
 use Rattle.scte35.specs.FlatNumber.{time_handed}
 use Rattle.splice_time.specs.Time.{adjusted_of}
-use Rattle.splice_time.specs.declared.AdjustedTime.{AdjustedTime}
 use Rattle.splice_time.specs.declared.SpliceTime.{SpliceTime}
-use Rattle.transport.specs.Assembler.{answering, giving, fresh_assembler, fed_of, taken_of}
+use Rattle.transport.specs.Assembler.{answering, giving, fresh_assembler, fed_of, fed_answer, fed_state, taken_of}
+use Rattle.transport.proofs.Answers.{fed_one}
 use Rattle.transport.specs.declared.Assembler.{Assembler}
-use Rattle.transport.specs.declared.Fed.{Fed}
-use Rattle.transport.specs.declared.Taken.{Taken}
-use Rattle.transport_packet.specs.Packet.{head_of}
-use Rattle.transport_packet.specs.declared.packet.Head.{Head}
+use Rattle.transport_packet.specs.Packet.{Head, head_of}
+use Rattle.transport_packet.specs.declared.packet.Refusal.{Refusal}
 use Rattle.theorems_c.specs.Boards.{May}
 use Rattle.adjust.proofs.adjust.Reads as adjust
 use Rattle.adjust.proofs.chain.Reads as chain
 use Rattle.adjust.proofs.undo.Reads as undo
 use Rattle.adjust_section.proofs.adjust_section.Reads as adjust_section
 use Rattle.splice_time.proofs.adjusted_time.Reads as adjusted_time
-use Rattle.transport.proofs.feed.Reads as feed
-use Rattle.transport.proofs.fresh.Reads as fresh
-use Rattle.transport.proofs.take.Reads as take_section
+use Rattle.transport.proofs.Assembler.feed.Reads as feed
+use Rattle.transport.proofs.Assembler.new.Reads as fresh
+use Rattle.transport.proofs.Assembler.take.Reads as take_section
 use Rattle.transport_packet.proofs.packet.read_head.Reads as read_head
 use Rattle.scte35.proofs.adjusting.scte35_adjust_section.Reads as scte35_adjust_section
 use Rattle.scte35.proofs.adjusting.scte35_chain_adjustments.Reads as scte35_chain_adjustments
@@ -45,33 +41,35 @@ use Rattle.scte35.proofs.packet.scte35_packet_feed.Reads as scte35_packet_feed
 use Rattle.scte35.proofs.packet.scte35_packet_start.Reads as scte35_packet_start
 use Rattle.scte35.proofs.packet.scte35_packet_take.Reads as scte35_packet_take
 use Rattle.scte35.proofs.scte35_adjust_time.Reads as scte35_adjust_time
+use Rattle.std.proofs.Common.{Option, Result}
+use Rattle.splice_time.specs.declared.TooLarge.{TooLarge}
 
 -- ---- times and adjustments
 
 -- `adjust` of a time by a number may answer m
-abbrev pub Adjusts : SpliceTime → ℕ → Moved → Type 0
-Adjusts t a m = May adjust.Learnt {S = SpliceTime × ℕ} {T = Moved} (λ κ x. (x.0, x.1.0)) (λ κ r e. r) (t, a) m
+abbrev pub Adjusts : SpliceTime → ℕ → Result SpliceTime TooLarge → Type 0
+Adjusts t a m = May adjust.Learnt {S = SpliceTime × ℕ} {T = Result SpliceTime TooLarge} (λ κ x. (x.0, x.1.0)) (λ κ r e. r) (t, a) m
 
-pub adjusts_so : {t : SpliceTime} {a : ℕ} {m : Moved} → Adjusts t a m → m ≡ adjust_of t a
+pub adjusts_so : {t : SpliceTime} {a : ℕ} {m : Result SpliceTime TooLarge} → Adjusts t a m → m ≡ adjust_of t a
 adjusts_so d = sym d.left ∙ d.learnt_so ∙ ap (λ (v : SpliceTime × ℕ). adjust_of v.0 v.1) d.taken
 
 -- `adjusted_time` of a time under pts_adjustment p
-abbrev pub AdjustsUnder : SpliceTime → ℕ → AdjustedTime → Type 0
-AdjustsUnder t p x = May adjusted_time.Learnt {S = SpliceTime × ℕ} {T = AdjustedTime} (λ κ x. (x.0, x.1.0)) (λ κ r e. r) (t, p) x
+abbrev pub AdjustsUnder : SpliceTime → ℕ → Result (Option ℕ) TooLarge → Type 0
+AdjustsUnder t p x = May adjusted_time.Learnt {S = SpliceTime × ℕ} {T = Result (Option ℕ) TooLarge} (λ κ x. (x.0, x.1.0)) (λ κ r e. r) (t, p) x
 
-pub adjusts_under_so : {t : SpliceTime} {p : ℕ} {x : AdjustedTime} → AdjustsUnder t p x → x ≡ adjusted_of t p
+pub adjusts_under_so : {t : SpliceTime} {p : ℕ} {x : Result (Option ℕ) TooLarge} → AdjustsUnder t p x → x ≡ adjusted_of t p
 adjusts_under_so d = sym d.left ∙ d.learnt_so ∙ ap (λ (v : SpliceTime × ℕ). adjusted_of v.0 v.1) d.taken
 
-abbrev pub Chains : ℕ → ℕ → Adjustment → Type 0
-Chains a b x = May chain.Learnt {S = ℕ × ℕ} {T = Adjustment} (λ κ x. (x.0, x.1.0)) (λ κ r e. r) (a, b) x
+abbrev pub Chains : ℕ → ℕ → Result ℕ TooLarge → Type 0
+Chains a b x = May chain.Learnt {S = ℕ × ℕ} {T = Result ℕ TooLarge} (λ κ x. (x.0, x.1.0)) (λ κ r e. r) (a, b) x
 
-pub chains_so : {a b : ℕ} {x : Adjustment} → Chains a b x → x ≡ chain_of a b
+pub chains_so : {a b : ℕ} {x : Result ℕ TooLarge} → Chains a b x → x ≡ chain_of a b
 chains_so d = sym d.left ∙ d.learnt_so ∙ ap (λ (v : ℕ × ℕ). chain_of v.0 v.1) d.taken
 
-abbrev pub Undoes : ℕ → Adjustment → Type 0
-Undoes a x = May undo.Learnt {S = ℕ} {T = Adjustment} (λ κ x. x.0) (λ κ r e. r) a x
+abbrev pub Undoes : ℕ → Result ℕ TooLarge → Type 0
+Undoes a x = May undo.Learnt {S = ℕ} {T = Result ℕ TooLarge} (λ κ x. x.0) (λ κ r e. r) a x
 
-pub undoes_so : {a : ℕ} {x : Adjustment} → Undoes a x → x ≡ undo_of a
+pub undoes_so : {a : ℕ} {x : Result ℕ TooLarge} → Undoes a x → x ≡ undo_of a
 undoes_so d = sym d.left ∙ d.learnt_so ∙ ap undo_of d.taken
 
 -- over C: `scte35_move_time`, `scte35_adjust_time` of a kind, ticks and a number
@@ -101,16 +99,16 @@ undoes_c_so d = sym d.left ∙ d.learnt_so ∙ ap (λ (v : ℕ). flat_adjustment
 
 -- ---- the single box: a section, an adjustment, the target, the answer and the target's later bytes
 
-abbrev pub AdjustsSection : List ℕ → ℕ → List ℕ → Written → List ℕ → Type 0
+abbrev pub AdjustsSection : List ℕ → ℕ → List ℕ → Result ℕ ℕ → List ℕ → Type 0
 AdjustsSection s a target answer later =
-    May adjust_section.Learnt {S = List ℕ × (ℕ × List ℕ)} {T = Written × List ℕ} (λ κ x. (x.0.now, (x.1.0, x.1.1.0.now))) (λ κ r e. (r, e.1.1.0.now))
+    May adjust_section.Learnt {S = List ℕ × (ℕ × List ℕ)} {T = Result ℕ ℕ × List ℕ} (λ κ x. (x.0.now, (x.1.0, x.1.1.0.now))) (λ κ r e. (r, e.1.1.0.now))
     (s, (a, target)) (answer, later)
 
-pub adjusts_section_so : {s : List ℕ} {a : ℕ} {target : List ℕ} {answer : Written} {later : List ℕ} → AdjustsSection s a target answer later
+pub adjusts_section_so : {s : List ℕ} {a : ℕ} {target : List ℕ} {answer : Result ℕ ℕ} {later : List ℕ} → AdjustsSection s a target answer later
     → (answer ≡ answer_of (adjusted_section s a) target) × (later ≡ later_of (adjusted_section s a) target)
 adjusts_section_so d = (
-  sym (ap (λ (v : Written × List ℕ). v.0) d.left) ∙ d.learnt_so.0 ∙ ap (λ (v : List ℕ × (ℕ × List ℕ)). answer_of (adjusted_section v.0 v.1.0) v.1.1) d.taken,
-  sym (ap (λ (v : Written × List ℕ). v.1) d.left) ∙ d.learnt_so.1 ∙ ap (λ (v : List ℕ × (ℕ × List ℕ)). later_of (adjusted_section v.0 v.1.0) v.1.1) d.taken,
+  sym (ap (λ (v : Result ℕ ℕ × List ℕ). v.0) d.left) ∙ d.learnt_so.0 ∙ ap (λ (v : List ℕ × (ℕ × List ℕ)). answer_of (adjusted_section v.0 v.1.0) v.1.1) d.taken,
+  sym (ap (λ (v : Result ℕ ℕ × List ℕ). v.1) d.left) ∙ d.learnt_so.1 ∙ ap (λ (v : List ℕ × (ℕ × List ℕ)). later_of (adjusted_section v.0 v.1.0) v.1.1) d.taken,
 )
 
 -- of the bytes that stand from its offset to the end
@@ -136,27 +134,40 @@ ReadsHead pid p h = May read_head.Learnt {S = ℕ × List ℕ} {T = Head} (λ κ
 pub reads_head_so : {pid : ℕ} {p : List ℕ} {h : Head} → ReadsHead pid p h → h ≡ head_of pid p
 reads_head_so d = sym d.left ∙ d.learnt_so ∙ ap (λ (v : ℕ × List ℕ). head_of v.0 v.1) d.taken
 
--- `fresh` of a PID
+-- `Assembler::new` of a PID
 abbrev pub Starts : ℕ → Assembler → Type 0
 Starts pid a = May fresh.Learnt {S = ℕ} {T = Assembler} (λ κ x. x.0) (λ κ r e. r) pid a
 
 pub starts_so : {pid : ℕ} {a : Assembler} → Starts pid a → a ≡ fresh_assembler pid
 starts_so d = sym d.left ∙ d.learnt_so ∙ ap fresh_assembler d.taken
 
--- `feed` and `take` of a state, a packet and a buffer: the answer and the buffer's later bytes
-abbrev pub Feeds : Assembler → List ℕ → List ℕ → Fed → List ℕ → Type 0
+-- `feed` and `take` of an assembler, a packet and a buffer: the answer with the assembler after it, and the buffer's later bytes
+abbrev pub Feeds : Assembler → List ℕ → List ℕ → Result Assembler Refusal → List ℕ → Type 0
 Feeds a p b answer later =
-    May feed.Learnt {S = Assembler × (List ℕ × List ℕ)} {T = Fed × List ℕ} (λ κ x. (x.0, (x.1.0.now, x.1.1.0.now))) (λ κ r e. (r, e.1.1.0.now)) (a, (p, b)) (answer, later)
+    May feed.Learnt {S = Assembler × (List ℕ × List ℕ)} {T = (Result (Unit {0}) Refusal × Assembler) × List ℕ} (λ κ x. (x.0.now, (x.1.0.now, x.1.1.0.now)))
+    (λ κ r e. ((r, e.0.now), e.1.1.0.now)) (a, (p, b)) ((fed_answer answer, fed_state a answer), later)
 
-pub feeds_so : {a : Assembler} {p b : List ℕ} {answer : Fed} {later : List ℕ} → Feeds a p b answer later → answering answer later ≡ fed_of a p b
-feeds_so d = sym (ap (λ (v : Fed × List ℕ). answering v.0 v.1) d.left) ∙ d.learnt_so ∙ ap (λ (v : Assembler × (List ℕ × List ℕ)). fed_of v.0 v.1.0 v.1.1) d.taken
+pub feeds_so : {a : Assembler} {p b : List ℕ} {answer : Result Assembler Refusal} {later : List ℕ} → Feeds a p b answer later → answering answer later ≡ fed_of a p b
+feeds_so {a = a} {p = p} {b = b} {answer = answer} {later = later} d =
+    let k = fed_of a p b in
+    let x : fed_answer answer ≡ fed_answer k.answer =
+    sym (ap (λ (v : (Result (Unit {0}) Refusal × Assembler) × List ℕ). v.0.0) d.left) ∙ d.learnt_so.0
+    ∙ ap (λ (v : Assembler × (List ℕ × List ℕ)). fed_answer (fed_of v.0 v.1.0 v.1.1).answer) d.taken in
+    let y : fed_state a answer ≡ fed_state a k.answer =
+    sym (ap (λ (v : (Result (Unit {0}) Refusal × Assembler) × List ℕ). v.0.1) d.left) ∙ d.learnt_so.1.0
+    ∙ ap (λ (v : Assembler × (List ℕ × List ℕ)). fed_state v.0 (fed_of v.0 v.1.0 v.1.1).answer) d.taken in
+    let z : later ≡ k.buffer =
+    sym (ap (λ (v : (Result (Unit {0}) Refusal × Assembler) × List ℕ). v.1) d.left) ∙ d.learnt_so.1.1
+    ∙ ap (λ (v : Assembler × (List ℕ × List ℕ)). (fed_of v.0 v.1.0 v.1.1).buffer) d.taken in
+    ap₂ answering (fed_one a answer k.answer x y) z
 
-abbrev pub Takes : Assembler → List ℕ → List ℕ → Taken → List ℕ → Type 0
+abbrev pub Takes : Assembler → List ℕ → List ℕ → Option ℕ × Assembler → List ℕ → Type 0
 Takes a p b answer later =
-    May take_section.Learnt {S = Assembler × (List ℕ × List ℕ)} {T = Taken × List ℕ} (λ κ x. (x.0, (x.1.0.now, x.1.1.0.now))) (λ κ r e. (r, e.1.1.0.now)) (a, (p, b)) (answer, later)
+    May take_section.Learnt {S = Assembler × (List ℕ × List ℕ)} {T = (Option ℕ × Assembler) × List ℕ} (λ κ x. (x.0.now, (x.1.0.now, x.1.1.0.now)))
+    (λ κ r e. ((r, e.0.now), e.1.1.0.now)) (a, (p, b)) (answer, later)
 
-pub takes_so : {a : Assembler} {p b : List ℕ} {answer : Taken} {later : List ℕ} → Takes a p b answer later → giving answer later ≡ taken_of a p b
-takes_so d = sym (ap (λ (v : Taken × List ℕ). giving v.0 v.1) d.left) ∙ d.learnt_so ∙ ap (λ (v : Assembler × (List ℕ × List ℕ)). taken_of v.0 v.1.0 v.1.1) d.taken
+pub takes_so : {a : Assembler} {p b : List ℕ} {answer : Option ℕ × Assembler} {later : List ℕ} → Takes a p b answer later → giving answer later ≡ taken_of a p b
+takes_so d = sym (ap (λ (v : (Option ℕ × Assembler) × List ℕ). giving v.0 v.1) d.left) ∙ d.learnt_so ∙ ap (λ (v : Assembler × (List ℕ × List ℕ)). taken_of v.0 v.1.0 v.1.1) d.taken
 
 -- over C: of lent words, whose later ones come back, too
 abbrev pub StartsC : ℕ → List ℕ → List ℕ → Type 0

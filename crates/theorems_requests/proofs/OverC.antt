@@ -8,12 +8,11 @@ use native.Mathlib.Omega.{arith}
 use lib.Dec.{eqb}
 use lib.ListN.{length, take, drop}
 use borrow.Author.Tests.{eqb-true, eqb-false}
+use Rattle.std.specs.Prelude.{Result, Ok, Err}
 use Rattle.adjust.proofs.Laws.{undo_wide}
 use Rattle.adjust.specs.Adjust.{chain_of, undo_of}
-use Rattle.adjust.specs.declared.Adjustment.{Adjustment}
 use Rattle.adjust_section.specs.Adjusted.{adjusted_section}
 use Rattle.bit_stores.specs.Written.{answer_of, later_of}
-use Rattle.bit_stores.specs.declared.Written.{Written}
 use Rattle.c_adjust.specs.FlatAdjust.{flat_adjustment}
 use Rattle.c_adjust.specs.declared.FlatAdjustment.{FlatAdjustment}
 use Rattle.c_command_writer.specs.Words.{flat_written}
@@ -23,7 +22,6 @@ use Rattle.c_section.specs.FlatSection.{flat_section_read}
 use Rattle.c_section.specs.declared.headers.FlatAdjusted.{FlatAdjusted}
 use Rattle.c_section.specs.declared.sections.FlatSection.{FlatSection}
 use Rattle.section.specs.Section.{section_of, number_of}
-use Rattle.section.specs.declared.SectionRead.{SectionRead}
 use Rattle.table.specs.Bits.{AllBytes}
 use Rattle.table.specs.Writing.{Made, made}
 use Rattle.theorems_functions.proofs.OverC.{ReadsSectionC, reads_section_so, flat_number, puts_flat, left}
@@ -32,12 +30,9 @@ use Rattle.theorems_writer.proofs.Theorems as writing
 use Rattle.transport.specs.Assembler.{FedTo, fresh_assembler, fed_of}
 use Rattle.transport.specs.Step.{fresh}
 use Rattle.transport.specs.declared.Assembler.{Assembler}
-use Rattle.transport.specs.declared.Fed.{Fed}
-use Rattle.transport.specs.declared.Fed.TheVariants as fed
 use Rattle.transport_laws.proofs.Theorems as packets
 use Rattle.transport_laws.specs.Concatenation.{payloads, unrepeated, runs_of, concatenation, concatenated, spans, spanned, Multiplex}
 use Rattle.transport_packet.specs.Sections.{Right, Each}
-use Rattle.transport_packet.specs.declared.packet.Head.TheVariants.{Refused}
 use Rattle.transport_packet.specs.declared.packet.Refusal.{Refusal}
 use Rattle.theorems_requests.specs.Adjustments.{TimeOverC, ChainedOverC, UndoneOverC}
 use Rattle.theorems_requests.specs.Packets.{refusal_number, unrefused_of, step_numbers, Zeros, words_of}
@@ -48,6 +43,7 @@ use Rattle.theorems_requests.proofs.Premises.{fresh_is_met, feed_is_met}
 use Rattle.theorems_requests.proofs.Runs.{RunsPackets, RunsPacketsC, kept_words, number_is, run_over_c, run_again}
 use Rattle.theorems_requests.proofs.Sections as sections
 use Rattle.theorems_requests.proofs.Theorems as rattle
+use Rattle.std.proofs.Common.{Ok}
 
 -- ---- a time, in the words refusal, kind and ticks
 
@@ -112,10 +108,10 @@ a_refused_box_over_c_changes_no_byte {s = s} {a = a} {target = target} {answer =
     (adjusts_section_c_so d).1 ∙ left (adjusted_section s a) target answer.refusal (ap (λ (v : FlatWritten). v.refusal) (sym (adjusts_section_c_so d).0)) some
 
 wrote : {s : List ℕ} {a : ℕ} {target : List ℕ} {answer : FlatWritten} {later : List ℕ} → AdjustsSectionC s a target answer later → answer.refusal ≡ 0
-    → answer_of (adjusted_section s a) target ≡ Written.Wrote answer.«length»
+    → answer_of (adjusted_section s a) target ≡ Ok answer.«length»
 wrote {s = s} {a = a} {target = target} d none =
     let e = (adjusts_section_c_so d).0 in
-    sections.wrote_over_c s target a (ap (λ (v : FlatWritten). v.refusal) (sym e) ∙ none) ∙ ap (λ (v : FlatWritten). Written.Wrote v.«length») (sym e)
+    sections.wrote_over_c s target a (ap (λ (v : FlatWritten). v.refusal) (sym e) ∙ none) ∙ ap (λ (v : FlatWritten). Ok v.«length») (sym e)
 
 made_over_c : {s : List ℕ} {a : ℕ} {target : List ℕ} {answer : FlatWritten} {later : List ℕ} → AdjustsSectionC s a target answer later → answer.refusal ≡ 0
     → adjusted_section s a ≡ made (take answer.«length» later)
@@ -135,9 +131,9 @@ pub an_adjusted_section_over_c_reads_the_same : {s : List ℕ} {f g : FlatSectio
 unfolding flat_section_read
 an_adjusted_section_over_c_reads_the_same {s = s} {f = f} {g = g} {a = a} {answer = answer} {later = later} old d none new =
     let t = sections.adjusted_to s a (take answer.«length» later) (made_over_c d none) in
-    let e : f ≡ flat_section_read (SectionRead.Is t.reading) = reads_section_so old ∙ ap flat_section_read t.was in
+    let e : f ≡ flat_section_read (Ok t.reading) = reads_section_so old ∙ ap flat_section_read t.was in
     let p = (t.reading.header.pts_adjustment + a) % 8589934592 in
-    let h : g ≡ flat_with p (flat_section_read (SectionRead.Is t.reading)) = reads_section_so new ∙ ap flat_section_read t.reads ∙ sections.flat_reading p t.reading in
+    let h : g ≡ flat_with p (flat_section_read (Ok t.reading)) = reads_section_so new ∙ ap flat_section_read t.reads ∙ sections.flat_reading p t.reading in
     (ap (λ (v : FlatSection). v.refusal) e, h ∙ sections.its_adjustment t.reading a ∙ ap (λ (v : FlatSection). flat_with ((v.header.pts_adjustment + a) % 8589934592) v) (sym e))
 
 -- what `scte35_read_section` refuses is refused with the same number
@@ -151,7 +147,7 @@ pub a_box_behind_a_box_over_c_is_one_by_their_chain : {s : List ℕ} {a b : ℕ}
     → AdjustsSectionC s a target first later → first.refusal ≡ 0 → ChainsC a b c → c.refusal ≡ 0
     → AdjustsSectionC (take first.«length» later) b room answer then → AdjustsSectionC s c.adjustment room other last → (answer ≡ other) × (then ≡ last)
 a_box_behind_a_box_over_c_is_one_by_their_chain {s = s} {a = a} {b = b} {c = c} {later = later} {room = room} {first = first} bytes d none f few second once =
-    let k : chain_of a b ≡ Adjustment.Is c.adjustment = adjustments.adjustment_over_c (chain_of a b) c (chains_c_so f) few in
+    let k : chain_of a b ≡ Ok c.adjustment = adjustments.adjustment_over_c (chain_of a b) c (chains_c_so f) few in
     let e = sections.behind s (take first.«length» later) a b c.adjustment bytes (made_over_c d none) k in (
       (adjusts_section_c_so second).0 ∙ ap (λ (m : Made). flat_written (answer_of m room)) e ∙ sym (adjusts_section_c_so once).0,
       (adjusts_section_c_so second).1 ∙ ap (λ (m : Made). later_of m room) e ∙ sym (adjusts_section_c_so once).1,
@@ -161,7 +157,7 @@ pub over_c_by_what_undo_answers_the_section_comes_back : {s : List ℕ} {a : ℕ
     → AdjustsSectionC s a target first later → first.refusal ≡ 0 → UndoesC a u → u.refusal ≡ 0 → AdjustsSectionC (take first.«length» later) u.adjustment room answer then
     → PutsFlat s room answer then
 over_c_by_what_undo_answers_the_section_comes_back {s = s} {a = a} {u = u} {later = later} {room = room} {then = then} {first = first} {answer = answer} bytes d none f few second =
-    let k : undo_of a ≡ Adjustment.Is u.adjustment = adjustments.adjustment_over_c (undo_of a) u (undoes_c_so f) few in
+    let k : undo_of a ≡ Ok u.adjustment = adjustments.adjustment_over_c (undo_of a) u (undoes_c_so f) few in
     let r = take first.«length» later in
     puts_flat (adjusted_section r u.adjustment) s room answer then (sections.back s r a u.adjustment bytes (made_over_c d none) k) (adjusts_section_c_so second).0 (adjusts_section_c_so second).1
 
@@ -189,12 +185,12 @@ pub packets_of_rattle_are_those_over_c : {a t : Assembler} {b c : List ℕ} {ps 
 packets_of_rattle_are_those_over_c rest run = run_again rest run
 
 -- 71 to 75: a packet that `feed` refuses is answered by the refusal's number; so is one that its head refuses
-pub a_packet_over_c_is_refused_by_its_number : {a : Assembler} {rest p b : List ℕ} {r : Refusal} {later : List ℕ} {n : ℕ} {w c : List ℕ} → Feeds a p b (fed.Refused r) later → FeedsC (words_of a rest) p b n w c
+pub a_packet_over_c_is_refused_by_its_number : {a : Assembler} {rest p b : List ℕ} {r : Refusal} {later : List ℕ} {n : ℕ} {w c : List ℕ} → Feeds a p b (Err r) later → FeedsC (words_of a rest) p b n w c
     → n ≡ refusal_number r
 unfolding fed_number
-a_packet_over_c_is_refused_by_its_number {r = r} d f = (feeds_c_so f).0 ∙ ap (λ (x : FedTo). fed_number x.answer) (sym (feeds_so d)) ∙ number_is r
+a_packet_over_c_is_refused_by_its_number {r = r} d f = (feeds_c_so f).0 ∙ ap (λ (x : FedTo). fed_number x.answer) (sym (feeds_so {answer = Err r} d)) ∙ number_is r
 
-pub a_packet_over_c_is_refused_with_71_to_74_by_its_head : {a : Assembler} {rest p b : List ℕ} {r : Refusal} {n : ℕ} {w c : List ℕ} → ReadsHead a.pid p (Refused r) → FeedsC (words_of a rest) p b n w c
+pub a_packet_over_c_is_refused_with_71_to_74_by_its_head : {a : Assembler} {rest p b : List ℕ} {r : Refusal} {n : ℕ} {w c : List ℕ} → ReadsHead a.pid p (Err r) → FeedsC (words_of a rest) p b n w c
     → n ≡ refusal_number r
 unfolding fed_number
 a_packet_over_c_is_refused_with_71_to_74_by_its_head {a = a} {p = p} {b = b} {r = r} h f =
@@ -205,9 +201,9 @@ pub a_refused_packet_over_c_changes_nothing : {words p b : List ℕ} {n : ℕ} {
 unfolding fed_number kept_fed
 a_refused_packet_over_c_changes_nothing {words = words} {p = p} {b = b} {n = n} {w = w} {c = c} d = go (fed_of (state_in words) p b).answer refl
   where
-    go : (k : Fed) → (fed_of (state_in words) p b).answer ≡ k → (w ≡ words) × (c ≡ b)
-    go (fed.Is later) e = let z : suc n ≡ 0 = (feeds_c_so d).0 ∙ ap fed_number e in absurd (omega (arith, z))
-    go (fed.Refused r) e = ((feeds_c_so d).1 ∙ ap (kept_fed words) e, (feeds_c_so d).2 ∙ packets.refused_keeps (state_in words) p b r e)
+    go : (k : Result Assembler Refusal) → (fed_of (state_in words) p b).answer ≡ k → (w ≡ words) × (c ≡ b)
+    go (Ok later) e = let z : suc n ≡ 0 = (feeds_c_so d).0 ∙ ap fed_number e in absurd (omega (arith, z))
+    go (Err r) e = ((feeds_c_so d).1 ∙ ap (kept_fed words) e, (feeds_c_so d).2 ∙ packets.refused_keeps (state_in words) p b r e)
 
 -- From `scte35_packet_start` on, with four words or more and the buffer that was asked for, of any packets.
 module _ {pid : ℕ} {words started w b c : List ℕ} {ps : List (List ℕ)} {ns : List ℕ} {ss : List (List ℕ)} (start : StartsC pid words started) (four : 4 ≤ length words) (room : 4096 ≤ length b) (run : RunsPacketsC started b ps ns ss w c) where

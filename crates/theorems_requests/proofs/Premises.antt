@@ -14,7 +14,7 @@ use Rattle.c_section.specs.Flat.{flat_adjusted}
 use Rattle.scte35.specs.FlatNumber.{time_handed}
 use Rattle.splice_time.specs.Time.{adjusted_of}
 use Rattle.splice_time.specs.declared.SpliceTime.{SpliceTime}
-use Rattle.transport.specs.Assembler.{fresh_assembler, fed_of, taken_of}
+use Rattle.transport.specs.Assembler.{fresh_assembler, fed_of, fed_answer, fed_state, taken_of}
 use Rattle.transport.specs.declared.Assembler.{Assembler}
 use Rattle.transport_packet.specs.Packet.{head_of}
 use Rattle.theorems_requests.proofs.Contracts.{Adjusts, AdjustsUnder, Chains, Undoes, MovesTimeC, AdjustsTimeC, ChainsC, UndoesC, AdjustsSection, AdjustsSectionC, ReadsHead, Starts, Feeds, Takes, StartsC, FeedsC, TakesC}
@@ -103,23 +103,27 @@ read_head_is_met pid p = record { κ = ([], tt); arguments = (pid, (slice p, tt)
 pub fresh_is_met : (pid : ℕ) → Starts pid (fresh_assembler pid)
 fresh_is_met pid = record { κ = tt; arguments = (pid, tt); answer = fresh_assembler pid; after = (pid, tt); taken = refl; left = refl; learnt_so = refl }
 
+-- a lent assembler
+abbrev lent : Assembler → MutBor Assembler
+lent a = record { ref_ptr = (0, 0); ghost_name = 0; now = a }
+
 pub feed_is_met : (a : Assembler) (p b : List ℕ) → Feeds a p b (fed_of a p b).answer (fed_of a p b).buffer
 feed_is_met a p b = record {
-  κ = ([], ([], tt));
-  arguments = (a, (slice p, (target_of b, tt)));
-  answer = (fed_of a p b).answer;
-  after = (a, (slice p, (target_of (fed_of a p b).buffer, tt)));
+  κ = ([], ([], ([], tt)));
+  arguments = (lent a, (slice p, (target_of b, tt)));
+  answer = fed_answer (fed_of a p b).answer;
+  after = (lent (fed_state a (fed_of a p b).answer), (slice p, (target_of (fed_of a p b).buffer, tt)));
   taken = refl;
   left = refl;
-  learnt_so = refl;
+  learnt_so = (refl, (refl, refl));
 }
 
 pub take_is_met : (a : Assembler) (p b : List ℕ) → Takes a p b (taken_of a p b).answer (taken_of a p b).buffer
 take_is_met a p b = record {
-  κ = ([], ([], tt));
-  arguments = (a, (slice p, (target_of b, tt)));
-  answer = (taken_of a p b).answer;
-  after = (a, (slice p, (target_of (taken_of a p b).buffer, tt)));
+  κ = ([], ([], ([], tt)));
+  arguments = (lent a, (slice p, (target_of b, tt)));
+  answer = (taken_of a p b).answer.0;
+  after = (lent (taken_of a p b).answer.1, (slice p, (target_of (taken_of a p b).buffer, tt)));
   taken = refl;
   left = refl;
   learnt_so = refl;

@@ -5,18 +5,14 @@ use mathlib.Core.Path.{◌≡◌, refl, ap, ap₂, sym, subst, ◌∙◌}
 use native.Mathlib.Omega.{arith}
 use lib.ListN.{length, take, drop}
 use lib.Seq.{take_all}
+use Rattle.std.specs.Prelude.{Option, Some, None, Result, Ok, Err}
 use Rattle.c_packet.specs.PacketWords.{state_in, kept_in, fed_number, kept_fed, taken_number, kept_taken}
-use Rattle.table.proofs.Lists.{zero_one}
 use Rattle.table.specs.Lent.{stored}
 use Rattle.transport.proofs.Answers.{from_nothing, from_long, from_part, from_complete, taken_nothing, taken_long, taken_part, taken_complete}
 use Rattle.transport.specs.Assembler.{at_rest, holding, FedTo, TakenTo, giving, taken_from, fed_of, taken_of}
 use Rattle.transport.specs.Step.{State, Told, step_of}
 use Rattle.transport.specs.Step.Told.{took}
 use Rattle.transport.specs.declared.Assembler.{Assembler}
-use Rattle.transport.specs.declared.Fed.{Fed}
-use Rattle.transport.specs.declared.Fed.TheVariants as fed
-use Rattle.transport.specs.declared.Taken.{Taken}
-use Rattle.transport.specs.declared.Taken.TheVariants.{Section, Done}
 use Rattle.transport_laws.proofs.Agreement.{IsStep, is_step}
 use Rattle.transport_laws.proofs.Ends.{take_ends}
 use Rattle.transport_laws.specs.Runs.{state_after, accepting, accepted}
@@ -39,14 +35,14 @@ use Rattle.theorems_requests.proofs.Premises.{feed_is_met, take_is_met, scte35_p
 
 -- ---- a section has three bytes or more, from any state
 
-size_some : (a later : Assembler) (p b c : List ℕ) (size : ℕ) → giving (Section size later) c ≡ taken_of a p b → size ≡ 0 → ⊥
+size_some : (a later : Assembler) (p b c : List ℕ) (size : ℕ) → giving (Some size, later) c ≡ taken_of a p b → size ≡ 0 → ⊥
 size_some a later p b c size e z = go (next_of (take a.held b)) refl
   where
-    ended : (x : Assembler) (d : List ℕ) → taken_of a p b ≡ giving (Done x) d → ⊥
-    ended x d q = let w : Section size later ≡ Done x = ap (λ (y : TakenTo). y.answer) (e ∙ q) in zero_one cc
+    ended : (x : Assembler) (d : List ℕ) → taken_of a p b ≡ giving (None, x) d → ⊥
+    ended x d q = let w : Some size ≡ None = ap (λ (y : TakenTo). y.answer.0) (e ∙ q) in cc
 
-    other : (n : ℕ) (x : Assembler) (d : List ℕ) → taken_of a p b ≡ giving (Section n x) d → 3 ≤ n → ⊥
-    other n x d q k = let w : Section size later ≡ Section n x = ap (λ (y : TakenTo). y.answer) (e ∙ q) in let f : size ≡ n = cc in omega (arith, f, z, k)
+    other : (n : ℕ) (x : Assembler) (d : List ℕ) → taken_of a p b ≡ giving (Some n, x) d → 3 ≤ n → ⊥
+    other n x d q k = let w : Some size ≡ Some n = ap (λ (y : TakenTo). y.answer.0) (e ∙ q) in let f : size ≡ n = cc in omega (arith, f, z, k)
 
     from : taken_of a p b ≡ taken_from a (drop a.at p) b → (k : Next) → next_of (drop a.at p) ≡ k → ⊥
     from q Nothing f = ended (at_rest a) b (q ∙ from_nothing a (drop a.at p) b f)
@@ -149,19 +145,19 @@ none_refused (accepts {p = p} f rest later) z = ap (λ (l : List (List ℕ)). p 
 
 -- ---- there is such a run, from any state
 
-feeds_if : (a : Assembler) (p b : List ℕ) (k : Fed) (c : List ℕ) → (fed_of a p b).answer ≡ k → c ≡ (fed_of a p b).buffer → Feeds a p b k c
+feeds_if : (a : Assembler) (p b : List ℕ) (k : Result Assembler Refusal) (c : List ℕ) → (fed_of a p b).answer ≡ k → c ≡ (fed_of a p b).buffer → Feeds a p b k c
 feeds_if a p b k c e l = rw (← e, l) (feed_is_met a p b)
 
-takes_if : (a : Assembler) (p b : List ℕ) (k : Taken) (c : List ℕ) → (taken_of a p b).answer ≡ k → c ≡ (taken_of a p b).buffer → Takes a p b k c
+takes_if : (a : Assembler) (p b : List ℕ) (k : Option ℕ × Assembler) (c : List ℕ) → (taken_of a p b).answer ≡ k → c ≡ (taken_of a p b).buffer → Takes a p b k c
 takes_if a p b k c e l = rw (← e, l) (take_is_met a p b)
 
-given_takes : (a later : Assembler) (p b c : List ℕ) (k : Taken) → taken_of a p b ≡ giving k c → Takes a p b k c
+given_takes : (a later : Assembler) (p b c : List ℕ) (k : Option ℕ × Assembler) → taken_of a p b ≡ giving k c → Takes a p b k c
 given_takes a later p b c k e = takes_if a p b k c (ap (λ (t : TakenTo). t.answer) e) (sym (ap (λ (t : TakenTo). t.buffer) e))
 
 ends_drained : {a : Assembler} {p b : List ℕ} {t : code.Takes} → Ends a p b t → Drains a p b t.sections t.assembler t.buffer
-ends_drained (code.Ends.done {a = a} {later = later} {p = p} {b = b} {b' = c} e) = nothing (done (given_takes a later p b c (Done later) e) refl)
+ends_drained (code.Ends.done {a = a} {later = later} {p = p} {b = b} {b' = c} e) = nothing (done (given_takes a later p b c (None, later) e) refl)
 ends_drained (code.Ends.gives {a = a} {later = later} {p = p} {b = b} {b' = c} {size = zero} e rest) = absurd (size_some a later p b c 0 (sym e) refl)
-ends_drained (code.Ends.gives {a = a} {later = later} {p = p} {b = b} {b' = c} {size = suc n} e rest) = more (section (given_takes a later p b c (Section (suc n) later) e) refl) (ends_drained rest)
+ends_drained (code.Ends.gives {a = a} {later = later} {p = p} {b = b} {b' = c} {size = suc n} e rest) = more (section (given_takes a later p b c (Some (suc n), later) e) refl) (ends_drained rest)
 
 pub record Met (a : Assembler) (b : List ℕ) (ps : List (List ℕ)) : Type 0 where
   pub numbers : List ℕ
@@ -181,13 +177,13 @@ pub a_run_of_any_packets_is_met : (ps : List (List ℕ)) (a : Assembler) (b : Li
 a_run_of_any_packets_is_met [] a b = record { numbers = []; sections = []; state = a; buffer = b; runs = over }
 a_run_of_any_packets_is_met (p ∷ ps) a b = go (a_run_of_any_packets_is_met ps) (fed_of a p b).answer refl
   where
-    go : ((t : Assembler) (c : List ℕ) → Met t c ps) → (k : Fed) → (fed_of a p b).answer ≡ k → Met a b (p ∷ ps)
-    go rest (fed.Refused r) e =
+    go : ((t : Assembler) (c : List ℕ) → Met t c ps) → (k : Result Assembler Refusal) → (fed_of a p b).answer ≡ k → Met a b (p ∷ ps)
+    go rest (Err r) e =
         let c = (fed_of a p b).buffer in
         let n = some_number r in
         let m = rest a c in
-        record { numbers = suc n.0 ∷ m.numbers; sections = m.sections; state = m.state; buffer = m.buffer; runs = refuses (is_refused (feeds_if a p b (fed.Refused r) c e refl) n.1) m.runs }
-    go rest (fed.Is later) e =
+        record { numbers = suc n.0 ∷ m.numbers; sections = m.sections; state = m.state; buffer = m.buffer; runs = refuses (is_refused (feeds_if a p b (Err r) c e refl) n.1) m.runs }
+    go rest (Ok later) e =
         let c = (fed_of a p b).buffer in
         let t = takes_of (suc (suc (length (drop later.at p)))) later p c in
         let m = rest t.assembler t.buffer in
@@ -197,7 +193,7 @@ a_run_of_any_packets_is_met (p ∷ ps) a b = go (a_run_of_any_packets_is_met ps)
           state = m.state;
           buffer = m.buffer;
           runs =
-              accepts (goes_in (feeds_if a p b (fed.Is later) c e refl) refl) (ends_drained (take_ends (suc (length (drop later.at p))) later p c (omega arith))) m.runs;
+              accepts (goes_in (feeds_if a p b (Ok later) c e refl) refl) (ends_drained (take_ends (suc (length (drop later.at p))) later p c (omega arith))) m.runs;
         }
 
 -- ---- the calls over C
@@ -227,9 +223,9 @@ module _ (rest : List ℕ) where
       s : (n ≡ fed_number (fed_of a p b).answer) × (w ≡ kept_fed (words_of a rest) (fed_of a p b).answer) × (c ≡ (fed_of a p b).buffer)
       s = feeds_c_so (subst (λ (x : List ℕ). FeedsC x p b n w c) e d)
 
-      go : (k : Fed) → (fed_of a p b).answer ≡ k → (t : Assembler) × (w ≡ words_of t rest) × FeedsTo Feeds a p b n t c
-      go (fed.Is later) f = (later, s.1 ∙ ap (kept_fed (words_of a rest)) f ∙ kept_words a later rest, goes_in (feeds_if a p b (fed.Is later) c f s.2) (s.0 ∙ ap fed_number f))
-      go (fed.Refused r) f = (a, s.1 ∙ ap (kept_fed (words_of a rest)) f, is_refused (feeds_if a p b (fed.Refused r) c f s.2) (s.0 ∙ ap fed_number f ∙ number_is r))
+      go : (k : Result Assembler Refusal) → (fed_of a p b).answer ≡ k → (t : Assembler) × (w ≡ words_of t rest) × FeedsTo Feeds a p b n t c
+      go (Ok later) f = (later, s.1 ∙ ap (kept_fed (words_of a rest)) f ∙ kept_words a later rest, goes_in (feeds_if a p b (Ok later) c f s.2) (s.0 ∙ ap fed_number f))
+      go (Err r) f = (a, s.1 ∙ ap (kept_fed (words_of a rest)) f, is_refused (feeds_if a p b (Err r) c f s.2) (s.0 ∙ ap fed_number f ∙ number_is r))
 
   takes_over_c : (a : Assembler) (words p b : List ℕ) (n : ℕ) (w c : List ℕ) → words ≡ words_of a rest → TakesC words p b n w c → (t : Assembler) × (w ≡ words_of t rest) × TakesTo Takes a p b n t c
   unfolding taken_number kept_taken
@@ -238,10 +234,10 @@ module _ (rest : List ℕ) where
       s : (n ≡ taken_number (taken_of a p b).answer) × (w ≡ kept_taken (words_of a rest) (taken_of a p b).answer) × (c ≡ (taken_of a p b).buffer)
       s = takes_c_so (subst (λ (x : List ℕ). TakesC x p b n w c) e d)
 
-      go : (k : Taken) → (taken_of a p b).answer ≡ k → (t : Assembler) × (w ≡ words_of t rest) × TakesTo Takes a p b n t c
-      go (Section size later) f =
-          (later, s.1 ∙ ap (kept_taken (words_of a rest)) f ∙ kept_words a later rest, section (takes_if a p b (Section size later) c f s.2) (s.0 ∙ ap taken_number f))
-      go (Done later) f = (later, s.1 ∙ ap (kept_taken (words_of a rest)) f ∙ kept_words a later rest, done (takes_if a p b (Done later) c f s.2) (s.0 ∙ ap taken_number f))
+      go : (k : Option ℕ × Assembler) → (taken_of a p b).answer ≡ k → (t : Assembler) × (w ≡ words_of t rest) × TakesTo Takes a p b n t c
+      go (Some size, later) f =
+          (later, s.1 ∙ ap (kept_taken (words_of a rest)) f ∙ kept_words a later rest, section (takes_if a p b (Some size, later) c f s.2) (s.0 ∙ ap taken_number f))
+      go (None, later) f = (later, s.1 ∙ ap (kept_taken (words_of a rest)) f ∙ kept_words a later rest, done (takes_if a p b (None, later) c f s.2) (s.0 ∙ ap taken_number f))
 
   drained_over_c : {words p b w c : List ℕ} {ss : List (List ℕ)} (a : Assembler) → words ≡ words_of a rest → DrainsC words p b ss w c → (t : Assembler) × (w ≡ words_of t rest) × Drains a p b ss t c
   drained_over_c a e (nothing {s = words} {t = w} {p = p} {b = b} {c = c} d) = let x = takes_over_c a words p b 0 w c e d in (x.0, x.1, nothing x.2)
@@ -277,11 +273,11 @@ module _ (rest : List ℕ) where
   feeds_again : {a t : Assembler} {p b c : List ℕ} {n : ℕ} → FeedsTo Feeds a p b n t c → FeedsC (words_of a rest) p b n (words_of t rest) c
   unfolding fed_number kept_fed
   feeds_again (goes_in {a = a} {later = later} {p = p} {b = b} {c = c} {n = n} d e) =
-      let q = feeds_so d in
+      let q = feeds_so {answer = Ok later} d in
       feeds_c_if (words_of a rest) p b n (words_of later rest) c (e ∙ ap (λ (x : FedTo). fed_number x.answer) q)
       (sym (kept_words a later rest) ∙ ap (λ (x : FedTo). kept_fed (words_of a rest) x.answer) q) (ap (λ (x : FedTo). x.buffer) q)
   feeds_again (is_refused {a = a} {p = p} {b = b} {c = c} {n = n} {r = r} d e) =
-      let q = feeds_so d in
+      let q = feeds_so {answer = Err r} d in
       feeds_c_if (words_of a rest) p b n (words_of a rest) c (e ∙ sym (number_is r) ∙ ap (λ (x : FedTo). fed_number x.answer) q)
       (ap (λ (x : FedTo). kept_fed (words_of a rest) x.answer) q) (ap (λ (x : FedTo). x.buffer) q)
 

@@ -1,15 +1,10 @@
 -- Q-9 of the functions: a packet's head by its bytes, and calls of the assembler one after the other, in the numbers that C answers.
-use Rattle.std.specs.Prelude.{ℕ, zero, suc, ◌+◌, ◌*◌, ◌/◌, ◌%◌, ◌≤◌, ◌<◌, List, [], ◌∷◌, ◌++◌, ◌≡◌, eqb, length, take, get_or}
+use Rattle.std.specs.Prelude.{ℕ, zero, suc, ◌+◌, ◌*◌, ◌/◌, ◌%◌, ◌≤◌, ◌<◌, List, [], ◌∷◌, ◌++◌, ◌≡◌, eqb, length, take, get_or, Option, Some, None, Result, Ok, Err}
 use Rattle.table.specs.Bits.{pick}
 use Rattle.transport.specs.Step.{State, Told, step_of}
 use Rattle.transport.specs.declared.Assembler.{Assembler}
-use Rattle.transport.specs.declared.Fed.{Fed}
-use Rattle.transport.specs.declared.Fed.TheVariants as fed
-use Rattle.transport.specs.declared.Taken.{Taken}
-use Rattle.transport.specs.declared.Taken.TheVariants as taken
 use Rattle.transport_laws.specs.Runs.{state_after}
-use Rattle.transport_packet.specs.declared.packet.Head.{Head}
-use Rattle.transport_packet.specs.declared.packet.Head.TheVariants.{Refused, NoPayload, Payload}
+use Rattle.transport_packet.specs.Packet.{Head, bringing}
 use Rattle.transport_packet.specs.declared.packet.Refusal.{Refusal}
 use Rattle.transport_packet.specs.declared.packet.Refusal.TheVariants.{NotAPacket, OtherPid, Scrambled, PayloadOutside, SectionLengthTooLarge}
 
@@ -35,20 +30,20 @@ pub record Loaded (pid : ℕ) (p : List ℕ) : Type 0 where
 -- "Refusals in order", and where the payload lies: its counter, its first byte, and the first that a section begins in (188 where none does)
 pub record HeadSays (pid : ℕ) (p : List ℕ) (h : Head) : Type 0 where
   -- 71 "not 188 bytes or wrong sync"
-  pub short : (length p ≡ 188 → ⊥) → h ≡ Refused NotAPacket
-  pub unsynced : length p ≡ 188 → (get_or p 0 0 ≡ 0x47 → ⊥) → h ≡ Refused NotAPacket
+  pub short : (length p ≡ 188 → ⊥) → h ≡ Err NotAPacket
+  pub unsynced : length p ≡ 188 → (get_or p 0 0 ≡ 0x47 → ⊥) → h ≡ Err NotAPacket
   -- 72 "another PID"
-  pub other : length p ≡ 188 → get_or p 0 0 ≡ 0x47 → (get_or p 1 0 % 32 * 256 + get_or p 2 0 ≡ pid → ⊥) → h ≡ Refused OtherPid
+  pub other : length p ≡ 188 → get_or p 0 0 ≡ 0x47 → (get_or p 1 0 % 32 * 256 + get_or p 2 0 ≡ pid → ⊥) → h ≡ Err OtherPid
   -- 73 "scrambled"
-  pub scrambled : length p ≡ 188 → get_or p 0 0 ≡ 0x47 → get_or p 1 0 % 32 * 256 + get_or p 2 0 ≡ pid → (get_or p 3 0 / 64 ≡ 0 → ⊥) → h ≡ Refused Scrambled
+  pub scrambled : length p ≡ 188 → get_or p 0 0 ≡ 0x47 → get_or p 1 0 % 32 * 256 + get_or p 2 0 ≡ pid → (get_or p 3 0 / 64 ≡ 0 → ⊥) → h ≡ Err Scrambled
   -- 74 "adaptation field past the packet's end or leaving no byte of an announced payload"
-  pub outside : Ours pid p → 188 < body_at p + get_or p 3 0 / 16 % 2 → h ≡ Refused PayloadOutside
-  pub empty : Ours pid p → get_or p 3 0 / 16 % 2 ≡ 0 → body_at p ≤ 188 → h ≡ NoPayload
-  pub goes : Loaded pid p → get_or p 1 0 / 64 % 2 ≡ 0 → h ≡ Payload (get_or p 3 0 % 16) (body_at p) 188
+  pub outside : Ours pid p → 188 < body_at p + get_or p 3 0 / 16 % 2 → h ≡ Err PayloadOutside
+  pub empty : Ours pid p → get_or p 3 0 / 16 % 2 ≡ 0 → body_at p ≤ 188 → h ≡ Ok None
+  pub goes : Loaded pid p → get_or p 1 0 / 64 % 2 ≡ 0 → h ≡ bringing (get_or p 3 0 % 16) (body_at p) 188
   -- 74 "or a pointer to byte 188 or past it"
-  pub pointer : Loaded pid p → get_or p 1 0 / 64 % 2 ≡ 1 → 188 ≤ body_at p + 1 + get_or p (body_at p) 0 → h ≡ Refused PayloadOutside
+  pub pointer : Loaded pid p → get_or p 1 0 / 64 % 2 ≡ 1 → 188 ≤ body_at p + 1 + get_or p (body_at p) 0 → h ≡ Err PayloadOutside
   pub starts : Loaded pid p → get_or p 1 0 / 64 % 2 ≡ 1 → body_at p + 1 + get_or p (body_at p) 0 < 188
-      → h ≡ Payload (get_or p 3 0 % 16) (body_at p + 1) (body_at p + 1 + get_or p (body_at p) 0)
+      → h ≡ bringing (get_or p 3 0 % 16) (body_at p + 1) (body_at p + 1 + get_or p (body_at p) 0)
 
 -- ---- the assembler's calls in numbers
 
@@ -60,14 +55,14 @@ refusal_number PayloadOutside = 74
 refusal_number SectionLengthTooLarge = 75
 
 -- a packet fed: 0 and the state behind it, or the refusal's number, and the state stays
-pub data FeedsTo (Feeds : Assembler → List ℕ → List ℕ → Fed → List ℕ → Type 0) : Assembler → List ℕ → List ℕ → ℕ → Assembler → List ℕ → Type 0 where
-  goes_in : {a later : Assembler} {p b c : List ℕ} {n : ℕ} → Feeds a p b (fed.Is later) c → n ≡ 0 → FeedsTo Feeds a p b n later c
-  is_refused : {a : Assembler} {p b c : List ℕ} {n : ℕ} {r : Refusal} → Feeds a p b (fed.Refused r) c → n ≡ refusal_number r → FeedsTo Feeds a p b n a c
+pub data FeedsTo (Feeds : Assembler → List ℕ → List ℕ → Result Assembler Refusal → List ℕ → Type 0) : Assembler → List ℕ → List ℕ → ℕ → Assembler → List ℕ → Type 0 where
+  goes_in : {a later : Assembler} {p b c : List ℕ} {n : ℕ} → Feeds a p b (Ok later) c → n ≡ 0 → FeedsTo Feeds a p b n later c
+  is_refused : {a : Assembler} {p b c : List ℕ} {n : ℕ} {r : Refusal} → Feeds a p b (Err r) c → n ≡ refusal_number r → FeedsTo Feeds a p b n a c
 
 -- a section taken: its length, or 0 where nothing is left of the packet
-pub data TakesTo (Takes : Assembler → List ℕ → List ℕ → Taken → List ℕ → Type 0) : Assembler → List ℕ → List ℕ → ℕ → Assembler → List ℕ → Type 0 where
-  section : {a later : Assembler} {p b c : List ℕ} {n size : ℕ} → Takes a p b (taken.Section size later) c → n ≡ size → TakesTo Takes a p b n later c
-  done : {a later : Assembler} {p b c : List ℕ} {n : ℕ} → Takes a p b (taken.Done later) c → n ≡ 0 → TakesTo Takes a p b n later c
+pub data TakesTo (Takes : Assembler → List ℕ → List ℕ → Option ℕ × Assembler → List ℕ → Type 0) : Assembler → List ℕ → List ℕ → ℕ → Assembler → List ℕ → Type 0 where
+  section : {a later : Assembler} {p b c : List ℕ} {n size : ℕ} → Takes a p b (Some size, later) c → n ≡ size → TakesTo Takes a p b n later c
+  done : {a later : Assembler} {p b c : List ℕ} {n : ℕ} → Takes a p b (None, later) c → n ≡ 0 → TakesTo Takes a p b n later c
 
 -- Over a state S, the assembler or the words that are lent: what a call may answer of a state, a packet and a buffer, and what it leaves.
 module _ {S : Type 0} (Feed Take : S → List ℕ → List ℕ → ℕ → S → List ℕ → Type 0) where

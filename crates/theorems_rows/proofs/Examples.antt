@@ -9,7 +9,6 @@ use lib.ListN.{length, get_or}
 use borrow.Author.Tests.{ltb-true, lt-ltb, le-ltb, eq-eqb}
 use Rattle.canonical_form.specs.Command.{canonical_command}
 use Rattle.command.specs.Command.{command_of}
-use Rattle.command.specs.declared.CommandRead.{CommandRead}
 use Rattle.command.specs.declared.SpliceCommand.{SpliceCommand}
 use Rattle.crc.specs.Crc.{crc_of, crc_bits, crc_bit}
 use Rattle.descriptor.specs.Descriptor.{descriptor_of, is_cuei, segmentation_of, active_of, active_with}
@@ -24,7 +23,6 @@ use Rattle.names.specs.Command as names
 use Rattle.section.proofs.Acceptance.{refusals_in_order, accepted_if_none}
 use Rattle.section.specs.Section.{command_length, command_type, command_bytes, room_after, loop_length, loop_place, frame_in, moved, moved_read, accepted, frame_of, section_of, number_of}
 use Rattle.section.specs.declared.Section.{Section}
-use Rattle.section.specs.declared.SectionRead.{SectionRead}
 use Rattle.canonical_form.specs.Section.{canonical_frame, canonical_section}
 use Rattle.table.proofs.Lists.{and_true}
 use Rattle.table.specs.Bits.{bits_of, field, AllBytes}
@@ -34,6 +32,7 @@ use Rattle.upid.specs.Text.{text_of, done, step, within}
 use Rattle.upid.specs.Upid.{upid_of, check_of, read_of, walk_of, ◌then◌, plain_of, length_of, is_text, reported_of, list_of, parts_of, listed, unless_refused}
 use Rattle.theorems_reader.specs.Identifiers.{identifiers_of}
 use Rattle.theorems_rows.specs.Examples.{EmptyCommand, splice_null, eight, twelve, both, eight_and_twelve, Identified}
+use Rattle.std.proofs.Common.{Ok}
 
 module _ (s : List ℕ) (h : EmptyCommand s) where
   room : room_after s ≡ length s - 18
@@ -61,11 +60,11 @@ module _ (s : List ℕ) (h : EmptyCommand s) where
   unfolding command_bytes
   no_bytes = rw h.size
 
-  null : command_type s ≡ 0 → command_of (command_type s) (command_bytes s) ≡ CommandRead.Is SpliceCommand.SpliceNull
+  null : command_type s ≡ 0 → command_of (command_type s) (command_bytes s) ≡ Ok SpliceCommand.SpliceNull
   unfolding command_of
   null t = rw (t, no_bytes)
 
-  pub empty_accepted : length s ≡ 20 → loop_length s ≡ 0 → command_type s ≡ 0 → (x : Section) × (section_of s ≡ SectionRead.Is x)
+  pub empty_accepted : length s ≡ 20 → loop_length s ≡ 0 → command_type s ≡ 0 → (x : Section) × (section_of s ≡ Ok x)
   empty_accepted n l t =
       accepted_if_none s (
         le-ltb (length s) 3 (omega arith),

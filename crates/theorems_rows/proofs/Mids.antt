@@ -12,15 +12,15 @@ use Rattle.upid.proofs.Laws.{walk_any}
 use Rattle.upid.specs.Text.{text_of}
 use Rattle.upid.specs.Upid.{◌then◌, walk_of, plain_of, length_of, is_text, reported_of, read_of, check_of}
 use Rattle.upid.specs.declared.Refusal.{Refusal}
-use Rattle.upid.specs.declared.UpidRead.{UpidRead}
 use Rattle.theorems_rows.specs.Payloads.{MidReads, part_read}
+use Rattle.std.proofs.Common.{Ok, Err, None, Result}
 
 module _ (start k n : ℕ) (rest : List ℕ) where
   -- the part, and those behind it
   inner : pick (eqb k 13) (walk_of (suc (length rest)) (start + 2) (take n rest)) (plain_of k (start + 2) (take n rest)) ≡ read_of k (start + 2) (take n rest)
   unfolding read_of
   inner =
-      ap (λ (w : UpidRead). pick (eqb k 13) w (plain_of k (start + 2) (take n rest)))
+      ap (λ (w : Result ℕ Refusal). pick (eqb k 13) w (plain_of k (start + 2) (take n rest)))
       (walk_any (suc (length rest)) (length (take n rest)) (start + 2) (take n rest) (omega (arith, length-take n rest)) (omega arith))
 
   behind : walk_of (suc (length rest)) (start + (2 + n)) (drop n rest) ≡ read_of 13 (start + (2 + n)) (drop n rest)
@@ -28,17 +28,17 @@ module _ (start k n : ℕ) (rest : List ℕ) where
   behind = walk_any (suc (length rest)) (length (drop n rest)) (start + (2 + n)) (drop n rest) (omega (arith, length-drop n rest)) (omega arith)
 
   walked : read_of 13 start (k ∷ n ∷ rest)
-      ≡ pick (ltb (length rest) n) (UpidRead.Refused (Refusal.NotEnoughData n (length rest)))
+      ≡ pick (ltb (length rest) n) (Err (Refusal.NotEnoughData n (length rest)))
       (pick (eqb k 13) (walk_of (suc (length rest)) (start + 2) (take n rest)) (plain_of k (start + 2) (take n rest)) then walk_of (suc (length rest)) (start + (2 + n)) (drop n rest))
   unfolding read_of walk_of
   walked = refl
 
   split : read_of 13 start (k ∷ n ∷ rest)
-      ≡ pick (ltb (length rest) n) (UpidRead.Refused (Refusal.NotEnoughData n (length rest))) (read_of k (start + 2) (take n rest) then read_of 13 (start + (2 + n)) (drop n rest))
+      ≡ pick (ltb (length rest) n) (Err (Refusal.NotEnoughData n (length rest))) (read_of k (start + 2) (take n rest) then read_of 13 (start + (2 + n)) (drop n rest))
   split =
       walked
-      ∙ ap (λ (w : UpidRead). pick (ltb (length rest) n) (UpidRead.Refused (Refusal.NotEnoughData n (length rest))) (w then walk_of (suc (length rest)) (start + (2 + n)) (drop n rest))) inner
-      ∙ ap (λ (w : UpidRead). pick (ltb (length rest) n) (UpidRead.Refused (Refusal.NotEnoughData n (length rest))) (read_of k (start + 2) (take n rest) then w)) behind
+      ∙ ap (λ (w : Result ℕ Refusal). pick (ltb (length rest) n) (Err (Refusal.NotEnoughData n (length rest))) (w then walk_of (suc (length rest)) (start + (2 + n)) (drop n rest))) inner
+      ∙ ap (λ (w : Result ℕ Refusal). pick (ltb (length rest) n) (Err (Refusal.NotEnoughData n (length rest))) (read_of k (start + 2) (take n rest) then w)) behind
 
 pub mid_reads : (start : ℕ) → MidReads start
 unfolding read_of walk_of ◌then◌
@@ -63,20 +63,20 @@ part_alone k start b h some fits =
     at = omega arith
 
     go : (p q r t : Bool)
-        → pick p (UpidRead.Refused Refusal.UpidLengthTypeMismatch) (pick q (UpidRead.Fine (reported_of k)) (pick r (UpidRead.Refused (Refusal.InvalidUpidLength k (length_of k) (length b)))
-        (pick t (UpidRead.Refused (Refusal.InvalidUpidContent k (record { at = start; len = length b }))) (UpidRead.Fine (reported_of k)))))
-        ≡ part_read start (pick p (UpidRead.Refused Refusal.UpidLengthTypeMismatch) (pick q (UpidRead.Fine (reported_of k)) (pick r (UpidRead.Refused (Refusal.InvalidUpidLength k (length_of k) (length b)))
-        (pick t (UpidRead.Refused (Refusal.InvalidUpidContent k (record { at = 0; len = length b }))) (UpidRead.Fine (reported_of k))))))
+        → pick p (Err Refusal.UpidLengthTypeMismatch) (pick q (Ok (reported_of k)) (pick r (Err (Refusal.InvalidUpidLength k (length_of k) (length b)))
+        (pick t (Err (Refusal.InvalidUpidContent k (record { at = start; len = length b }))) (Ok (reported_of k)))))
+        ≡ part_read start (pick p (Err Refusal.UpidLengthTypeMismatch) (pick q (Ok (reported_of k)) (pick r (Err (Refusal.InvalidUpidLength k (length_of k) (length b)))
+        (pick t (Err (Refusal.InvalidUpidContent k (record { at = 0; len = length b }))) (Ok (reported_of k))))))
     go true q r t = refl
     go false true r t = refl
     go false false true t = refl
-    go false false false true = ap (λ (a : ℕ). UpidRead.Refused (Refusal.InvalidUpidContent k (record { at = a; len = length b }))) at
+    go false false false true = ap (λ (a : ℕ). Err (Refusal.InvalidUpidContent k (record { at = a; len = length b }))) at
     go false false false false = refl
 
 -- an empty part is no None
-pub part_empty : (k start : ℕ) → (k ≡ 13 → ⊥) → (k ≡ 0 → read_of k start [] ≡ UpidRead.Refused Refusal.UpidLengthTypeMismatch)
-    × ((k ≡ 0 → ⊥) → 1 ≤ length_of k → read_of k start [] ≡ UpidRead.Refused (Refusal.InvalidUpidLength k (length_of k) 0))
-    × ((k ≡ 0 → ⊥) → length_of k ≡ 0 → read_of k start [] ≡ UpidRead.Fine (reported_of k))
+pub part_empty : (k start : ℕ) → (k ≡ 13 → ⊥) → (k ≡ 0 → read_of k start [] ≡ Err Refusal.UpidLengthTypeMismatch)
+    × ((k ≡ 0 → ⊥) → 1 ≤ length_of k → read_of k start [] ≡ Err (Refusal.InvalidUpidLength k (length_of k) 0))
+    × ((k ≡ 0 → ⊥) → length_of k ≡ 0 → read_of k start [] ≡ Ok (reported_of k))
 unfolding read_of plain_of
 part_empty k start h = (
   λ z. rw (ne_eqb k 13 h, eq-eqb k 0 z),

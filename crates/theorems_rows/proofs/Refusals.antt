@@ -9,20 +9,17 @@ use lib.ListN.{length, take, drop, get_or, replicate, length-drop}
 use lib.Seq.{get_or-drop}
 use borrow.Author.Tests.{eq-eqb, ne_eqb, lt-ltb, le-ltb, eqb-true}
 use Rattle.command.specs.Command.{number_of}
-use Rattle.command.specs.declared.CommandRead.{CommandRead}
 use Rattle.descriptor.specs.Descriptor.{avail_of, dtmf_of, time_of, reserved_of, segmentation_of, active_of, active_with, is_cuei, cuei, descriptor_of, ◌and_then◌, if_fine}
 use Rattle.descriptor.specs.Plain.{avail, dtmf, time}
 use Rattle.descriptor.specs.Segmentation.{head, front, back}
 use Rattle.descriptor.specs.Full.{blank_beside, identifier_read}
 use Rattle.descriptor.specs.declared.Descriptor.{Descriptor}
 use Rattle.descriptor.specs.declared.segmentation.DescriptorDetail.{DescriptorDetail}
-use Rattle.descriptor.specs.declared.DescriptorRead.{DescriptorRead}
 use Rattle.descriptor.specs.declared.segmentation.SegmentationUpid.{SegmentationUpid}
 use Rattle.descriptor_loop.proofs.Steps.{Clause, clause, step_long, step_end, step_few, step_over, step_full, step_small, step_complete}
 use Rattle.descriptor_loop.specs.Cover.{Ends}
 use Rattle.descriptor_loop.specs.Items.{without_identifier, short, item_at, read_at, step_of, reading_of, complete_at}
 use Rattle.descriptor_loop.specs.Items as items
-use Rattle.descriptor_loop.specs.declared.Item.{Item}
 use Rattle.descriptor_loop.specs.declared.ItemRefusal.{ItemRefusal}
 use Rattle.descriptor_loop.specs.declared.Step.{Step}
 use Rattle.table.proofs.Lists.{zero_one}
@@ -36,12 +33,14 @@ use Rattle.upid.specs.Text.{text_of}
 use Rattle.upid.specs.Upid as upid
 use Rattle.upid.specs.Upid.{check_of, read_of, plain_of, length_of, is_text, reported_of}
 use Rattle.upid.specs.declared.Refusal.{Refusal}
-use Rattle.upid.specs.declared.UpidRead.{UpidRead}
 use Rattle.theorems_rows.specs.Refusals.{StepRefused, end_number, end_values, UpidRefused, kind_of, fixed_lengths, texts, plain_lengths}
+use Rattle.std.proofs.Common.{Ok, Err, Some, None, Result}
+use Rattle.command.specs.declared.SpliceCommand.{SpliceCommand}
+use Rattle.command.specs.declared.CommandRefusal.{CommandRefusal}
 
 -- ---- a step
 
-refused_without_identifier : (s : Step) (r : ItemRefusal) (n : ℕ) (values : List ℕ) (next : ℕ) → s ≡ without_identifier (Item.Refused r) next → items.number_of r ≡ n → items.values_of r ≡ values → StepRefused s n values next
+refused_without_identifier : (s : Step) (r : ItemRefusal) (n : ℕ) (values : List ℕ) (next : ℕ) → s ≡ without_identifier (Some (Err r)) next → items.number_of r ≡ n → items.values_of r ≡ values → StepRefused s n values next
 refused_without_identifier s r n values next e a b = record { refusal = r; is = ap (λ (t : Step). t.item) e; number = a; told = b; goes = ap (λ (t : Step). t.next) e }
 
 module _ (loop : List ℕ) (offset : ℕ) where
@@ -50,7 +49,7 @@ module _ (loop : List ℕ) (offset : ℕ) where
   refusal_2 h = refused_without_identifier _ (ItemRefusal.Other Refusal.InputTooLong) 2 [] (length loop) (step_long loop offset h) refl refl
 
   module _ (fits : length loop ≤ 4076) where
-    pub at_the_end : length loop ≤ offset → ((step_of loop offset).item ≡ Item.End) × ((step_of loop offset).next ≡ length loop)
+    pub at_the_end : length loop ≤ offset → ((step_of loop offset).item ≡ None) × ((step_of loop offset).next ≡ length loop)
     at_the_end h = (ap (λ (t : Step). t.item) (step_end loop offset fits h), ap (λ (t : Step). t.next) (step_end loop offset fits h))
 
     pub few_left : offset < length loop → length loop - offset ≤ 5 → StepRefused (step_of loop offset) 21 (2 ∷ 0 ∷ []) (length loop)
@@ -79,38 +78,38 @@ module _ (loop : List ℕ) (offset : ℕ) where
 
 -- ---- the kind of a descriptor
 
-abbrev KindIs : ℕ → DescriptorRead → Type 0
-KindIs k (DescriptorRead.Is d) = kind_of d ≡ k
-KindIs k (DescriptorRead.Refused r) = Unit {0}
+abbrev KindIs : ℕ → Result Descriptor Refusal → Type 0
+KindIs k (Ok d) = kind_of d ≡ k
+KindIs k (Err r) = Unit {0}
 
-kind_then : {X : Type 0} (k : ℕ) (r : Answer X) (f : X → ℕ → DescriptorRead) → ((x : X) (at : ℕ) → KindIs k (f x at)) → KindIs k (r and_then f)
+kind_then : {X : Type 0} (k : ℕ) (r : Answer X) (f : X → ℕ → Result Descriptor Refusal) → ((x : X) (at : ℕ) → KindIs k (f x at)) → KindIs k (r and_then f)
 kind_then k (got x at) f h = h x at
 kind_then k (lacks e a) f h = tt
 
-kind_pick : (k : ℕ) (b : Bool) (x y : DescriptorRead) → KindIs k x → KindIs k y → KindIs k (pick b x y)
+kind_pick : (k : ℕ) (b : Bool) (x y : Result Descriptor Refusal) → KindIs k x → KindIs k y → KindIs k (pick b x y)
 kind_pick k true x y h g = h
 kind_pick k false x y h g = g
 
-kind_fine : (k : ℕ) (r : UpidRead) (v : View) (f : SegmentationUpid → DescriptorRead) → ((u : SegmentationUpid) → KindIs k (f u)) → KindIs k (if_fine r v f)
-kind_fine k (UpidRead.Fine n) v f h = h _
-kind_fine k (UpidRead.Refused r) v f h = tt
+kind_fine : (k : ℕ) (r : Result ℕ Refusal) (v : View) (f : SegmentationUpid → Result Descriptor Refusal) → ((u : SegmentationUpid) → KindIs k (f u)) → KindIs k (if_fine r v f)
+kind_fine k (Ok n) v f h = h _
+kind_fine k (Err r) v f h = tt
 
 module _ (s : List ℕ) where
   avail_kind : KindIs 0 (avail_of s)
   unfolding avail_of
   avail_kind =
-      kind_pick 0 (ltb (length s) 4) (DescriptorRead.Refused (Refusal.NotEnoughData 4 (length s))) (parse avail (bits_of s) 0 and_then λ x at. DescriptorRead.Is (Descriptor.Avail x)) tt
-      (kind_then 0 (parse avail (bits_of s) 0) (λ x at. DescriptorRead.Is (Descriptor.Avail x)) (λ x at. refl))
+      kind_pick 0 (ltb (length s) 4) (Err (Refusal.NotEnoughData 4 (length s))) (parse avail (bits_of s) 0 and_then λ x at. Ok (Descriptor.Avail x)) tt
+      (kind_then 0 (parse avail (bits_of s) 0) (λ x at. Ok (Descriptor.Avail x)) (λ x at. refl))
 
   dtmf_kind : KindIs 1 (dtmf_of s)
   unfolding dtmf_of
-  dtmf_kind = kind_then 1 (parse dtmf (bits_of s) 0) (λ x at. DescriptorRead.Is (Descriptor.Dtmf x)) (λ x at. refl)
+  dtmf_kind = kind_then 1 (parse dtmf (bits_of s) 0) (λ x at. Ok (Descriptor.Dtmf x)) (λ x at. refl)
 
   time_kind : KindIs 3 (time_of s)
   unfolding time_of
   time_kind =
-      kind_pick 3 (ltb (length s) 12) (DescriptorRead.Refused (Refusal.NotEnoughData 12 (length s))) (parse time (bits_of s) 0 and_then λ x at. DescriptorRead.Is (Descriptor.Time x)) tt
-      (kind_then 3 (parse time (bits_of s) 0) (λ x at. DescriptorRead.Is (Descriptor.Time x)) (λ x at. refl))
+      kind_pick 3 (ltb (length s) 12) (Err (Refusal.NotEnoughData 12 (length s))) (parse time (bits_of s) 0 and_then λ x at. Ok (Descriptor.Time x)) tt
+      (kind_then 3 (parse time (bits_of s) 0) (λ x at. Ok (Descriptor.Time x)) (λ x at. refl))
 
   active_kind : (event at : ℕ) → KindIs 2 (active_of s event at)
   unfolding active_of active_with
@@ -126,12 +125,12 @@ module _ (s : List ℕ) where
   unfolding segmentation_of
   segmentation_kind =
       kind_then 2 (parse head (bits_of s) 0)
-      (λ h at. pick h.cancel (DescriptorRead.Is (Descriptor.Segmentation (record { segmentation_event_id = h.event; descriptor_detail = DescriptorDetail.Cancel }))) (active_of s h.event at))
-      (λ h at. kind_pick 2 h.cancel (DescriptorRead.Is (Descriptor.Segmentation (record { segmentation_event_id = h.event; descriptor_detail = DescriptorDetail.Cancel }))) (active_of s h.event at)
+      (λ h at. pick h.cancel (Ok (Descriptor.Segmentation (record { segmentation_event_id = h.event; descriptor_detail = DescriptorDetail.Cancel }))) (active_of s h.event at))
+      (λ h at. kind_pick 2 h.cancel (Ok (Descriptor.Segmentation (record { segmentation_event_id = h.event; descriptor_detail = DescriptorDetail.Cancel }))) (active_of s h.event at)
       refl (active_kind h.event at))
 
   -- "CUEI", and a tag of 0 to 3
-  pub cuei_kind : (tag : ℕ) (d : Descriptor) → tag ≤ 3 → descriptor_of tag cuei s ≡ DescriptorRead.Is d → kind_of d ≡ tag
+  pub cuei_kind : (tag : ℕ) (d : Descriptor) → tag ≤ 3 → descriptor_of tag cuei s ≡ Ok d → kind_of d ≡ tag
   unfolding descriptor_of is_cuei
   cuei_kind zero d h e = rw e at avail_kind
   cuei_kind (suc zero) d h e = rw e at dtmf_kind
@@ -162,7 +161,7 @@ module _ (s : List ℕ) where
 
 -- ---- a UPID alone
 
-upid_refused_lem : (r : UpidRead) (x : Refusal) (n : ℕ) (values : List ℕ) → r ≡ UpidRead.Refused x → upid.number_of x ≡ n → upid.values_of x ≡ values → UpidRefused r n values
+upid_refused_lem : (r : Result ℕ Refusal) (x : Refusal) (n : ℕ) (values : List ℕ) → r ≡ Err x → upid.number_of x ≡ n → upid.values_of x ≡ values → UpidRefused r n values
 upid_refused_lem r x n values e a b = record { refusal = x; is = e; number = a; told = b }
 
 module _ (b : List ℕ) where
@@ -211,11 +210,11 @@ module _ (b : List ℕ) where
         (more (no_text 7 12 (λ z. omega arith) (λ z. omega arith) refl (λ z. omega arith) refl) none))
 
     -- else it is read: a text
-    a_text : (k n : ℕ) → (k ≡ 0 → ⊥) → (k ≡ 13 → ⊥) → length_of k ≡ n → (n ≡ 0 → ⊥) → is_text k ≡ true → reported_of k ≡ k → length b ≡ n → text_of b ≡ true → check_of k b ≡ UpidRead.Fine k
+    a_text : (k n : ℕ) → (k ≡ 0 → ⊥) → (k ≡ 13 → ⊥) → length_of k ≡ n → (n ≡ 0 → ⊥) → is_text k ≡ true → reported_of k ≡ k → length b ≡ n → text_of b ≡ true → check_of k b ≡ Ok k
     unfolding plain_of
     a_text k n z m e p t r l u = plain k m ∙ rw (ne_eqb k 0 z, e, ne_eqb n 0 p, eq-eqb (length b) n l, t, u, r)
 
-    pub upid_text : All (λ (t : ℕ × ℕ). length b ≡ t.1 → text_of b ≡ true → check_of t.0 b ≡ UpidRead.Fine t.0) texts
+    pub upid_text : All (λ (t : ℕ × ℕ). length b ≡ t.1 → text_of b ≡ true → check_of t.0 b ≡ Ok t.0) texts
     unfolding length_of is_text reported_of
     upid_text =
         more (a_text 2 8 (λ z. omega arith) (λ z. omega arith) refl (λ z. omega arith) refl refl)
@@ -223,11 +222,11 @@ module _ (b : List ℕ) where
         (more (a_text 7 12 (λ z. omega arith) (λ z. omega arith) refl (λ z. omega arith) refl refl) none))
 
     -- bytes of a fixed length, which are no text
-    of_length : (k n r : ℕ) → (k ≡ 0 → ⊥) → (k ≡ 13 → ⊥) → length_of k ≡ n → (n ≡ 0 → ⊥) → is_text k ≡ false → reported_of k ≡ r → length b ≡ n → check_of k b ≡ UpidRead.Fine r
+    of_length : (k n r : ℕ) → (k ≡ 0 → ⊥) → (k ≡ 13 → ⊥) → length_of k ≡ n → (n ≡ 0 → ⊥) → is_text k ≡ false → reported_of k ≡ r → length b ≡ n → check_of k b ≡ Ok r
     unfolding plain_of
     of_length k n r z m e p t q l = plain k m ∙ rw (ne_eqb k 0 z, e, ne_eqb n 0 p, eq-eqb (length b) n l, t, q)
 
-    pub upid_of_length : All (λ (t : ℕ × (ℕ × ℕ)). length b ≡ t.1.0 → check_of t.0 b ≡ UpidRead.Fine t.1.1) plain_lengths
+    pub upid_of_length : All (λ (t : ℕ × (ℕ × ℕ)). length b ≡ t.1.0 → check_of t.0 b ≡ Ok t.1.1) plain_lengths
     unfolding length_of is_text reported_of
     upid_of_length =
         more (of_length 4 32 4 (λ z. omega arith) (λ z. omega arith) refl (λ z. omega arith) refl refl)
@@ -237,28 +236,28 @@ module _ (b : List ℕ) where
         (more (of_length 10 12 10 (λ z. omega arith) (λ z. omega arith) refl (λ z. omega arith) refl refl) none))))
 
     -- any other type takes any bytes
-    free : (k : ℕ) → (k ≡ 0 → ⊥) → (k ≡ 13 → ⊥) → length_of k ≡ 0 → reported_of k ≡ k → check_of k b ≡ UpidRead.Fine k
+    free : (k : ℕ) → (k ≡ 0 → ⊥) → (k ≡ 13 → ⊥) → length_of k ≡ 0 → reported_of k ≡ k → check_of k b ≡ Ok k
     unfolding plain_of
     free k z m e r = plain k m ∙ rw (ne_eqb k 0 z, e, r)
 
-    pub upid_untested : All (λ (k : ℕ). check_of k b ≡ UpidRead.Fine k) (1 ∷ 9 ∷ 11 ∷ 12 ∷ 14 ∷ [])
+    pub upid_untested : All (λ (k : ℕ). check_of k b ≡ Ok k) (1 ∷ 9 ∷ 11 ∷ 12 ∷ 14 ∷ [])
     unfolding length_of reported_of
     upid_untested =
         more (free 1 (λ z. omega arith) (λ z. omega arith) refl refl) (more (free 9 (λ z. omega arith) (λ z. omega arith) refl refl)
         (more (free 11 (λ z. omega arith) (λ z. omega arith) refl refl) (more (free 12 (λ z. omega arith) (λ z. omega arith) refl refl)
         (more (free 14 (λ z. omega arith) (λ z. omega arith) refl refl) none))))
 
-    pub upid_above_14 : (k : ℕ) → 15 ≤ k → check_of k b ≡ UpidRead.Fine k
+    pub upid_above_14 : (k : ℕ) → 15 ≤ k → check_of k b ≡ Ok k
     unfolding length_of reported_of
     upid_above_14 k h = free k (λ z. omega arith) (λ z. omega arith)
         (rw (ne_eqb k 2 (λ z. omega arith), ne_eqb k 5 (λ z. omega arith), ne_eqb k 8 (λ z. omega arith), ne_eqb k 3 (λ z. omega arith), ne_eqb k 6 (λ z. omega arith), ne_eqb k 7 (λ z. omega arith), ne_eqb k 10 (λ z. omega arith), ne_eqb k 4 (λ z. omega arith)))
         (rw (ne_eqb k 5 (λ z. omega arith)))
 
 -- ---- 11 is of a malformed command alone
-pub malformed_only : (r : CommandRead) → eqb (number_of r) 11 ≡ true → r ≡ CommandRead.Malformed
-malformed_only (CommandRead.Is c) e = zero_one cc
-malformed_only CommandRead.UnknownType e = zero_one cc
-malformed_only CommandRead.Malformed e = refl
+pub malformed_only : (r : Result SpliceCommand CommandRefusal) → eqb (number_of r) 11 ≡ true → r ≡ Err CommandRefusal.Malformed
+malformed_only (Ok c) e = zero_one cc
+malformed_only (Err CommandRefusal.UnknownType) e = zero_one cc
+malformed_only (Err CommandRefusal.Malformed) e = refl
 
 -- ---- where a loop ends
 pub ending : (loop : List ℕ) (offset : ℕ) → length loop ≤ 4076 → (e : Ends (drop offset loop)) → StepRefused (step_of loop offset) (end_number e) (end_values e) (length loop)
@@ -280,7 +279,7 @@ pub loops_that_end : (few : Ends (0x00 ∷ [])) × (over : Ends (0x02 ∷ 0x09 �
 loops_that_end = (Ends.few {rest = 0x00 ∷ []} (omega arith) (omega arith), Ends.over {rest = 0x02 ∷ 0x09 ∷ 0x43 ∷ 0x55 ∷ 0x45 ∷ 0x49 ∷ []} (omega arith) (omega arith), Ends.full {rest = 0x02 ∷ 0xFF ∷ replicate 255 0} (omega arith) (omega arith), refl, refl, refl)
 
 -- ---- a refused item is no reading: nothing stands beside it
-by_clause : (loop : List ℕ) (offset : ℕ) (r : ItemRefusal) {st : Step} → Clause loop offset st → st.item ≡ Item.Refused r → st.identifier ≡ replicate 4 0
+by_clause : (loop : List ℕ) (offset : ℕ) (r : ItemRefusal) {st : Step} → Clause loop offset st → st.item ≡ Some (Err r) → st.identifier ≡ replicate 4 0
 unfolding complete_at
 by_clause loop offset r (Clause.long h) e = refl
 by_clause loop offset r (Clause.ended h) e = refl
@@ -288,11 +287,11 @@ by_clause loop offset r (Clause.last q v h) e = refl
 by_clause loop offset r (Clause.small L t) e = refl
 by_clause loop offset r (Clause.entire L t h) e = go (read_at loop offset L) e
   where
-    go : (d : DescriptorRead) → item_at (offset + 6) d ≡ Item.Refused r → identifier_read d (take 4 (drop (offset + 2) loop)) ≡ replicate 4 0
-    go (DescriptorRead.Is d) e = zero_one cc
-    go (DescriptorRead.Refused q) e = refl
+    go : (d : Result Descriptor Refusal) → item_at (offset + 6) d ≡ Some (Err r) → identifier_read d (take 4 (drop (offset + 2) loop)) ≡ replicate 4 0
+    go (Ok d) e = zero_one cc
+    go (Err q) e = refl
 
-pub nothing_beside : (loop : List ℕ) (offset : ℕ) (r : ItemRefusal) → (step_of loop offset).item ≡ Item.Refused r
+pub nothing_beside : (loop : List ℕ) (offset : ℕ) (r : ItemRefusal) → (step_of loop offset).item ≡ Some (Err r)
     → ((reading_of loop offset).beside ≡ blank_beside) × ((step_of loop offset).identifier ≡ replicate 4 0)
 unfolding reading_of
 nothing_beside loop offset r e = (rw e, by_clause loop offset r (clause loop offset) e)

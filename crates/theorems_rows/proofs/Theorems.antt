@@ -9,10 +9,8 @@ use lib.ListN.{length, take, drop, get_or, replicate}
 use lib.Dec.{eqb}
 use borrow.Author.Tests.{ne_eqb, le-leb, lt-leb}
 use Rattle.bit_stores.specs.Written.{answer_of, later_of}
-use Rattle.bit_stores.specs.declared.Written.{Written}
 use Rattle.command.specs.Command.{command_of, components_of, private}
 use Rattle.command.specs.Insert.{WithComponents, insert}
-use Rattle.command.specs.declared.CommandRead.{CommandRead}
 use Rattle.command.specs.declared.Private.{Private}
 use Rattle.command.specs.declared.SpliceCommand.{SpliceCommand}
 use Rattle.command.specs.declared.insert.SpliceInsert.{SpliceInsert}
@@ -21,15 +19,12 @@ use Rattle.descriptor.specs.Descriptor.{cuei, descriptor_of, is_cuei}
 use Rattle.descriptor.specs.Plain.{dtmf}
 use Rattle.descriptor.specs.Full.{blank_beside}
 use Rattle.descriptor.specs.declared.Descriptor.{Descriptor}
-use Rattle.descriptor.specs.declared.DescriptorRead.{DescriptorRead}
 use Rattle.descriptor.specs.declared.plain.DTMFDescriptor.{DTMFDescriptor}
 use Rattle.header.proofs.Headers.{header_refused, header_there}
 use Rattle.header.specs.Header.{header_of}
-use Rattle.header.specs.declared.header.HeaderRead.{HeaderRead}
 use Rattle.header.specs.declared.header.SpliceInfoHeader.{SpliceInfoHeader}
 use Rattle.descriptor_loop.specs.Cover.{Ends}
 use Rattle.descriptor_loop.specs.Items.{step_of, reading_of, complete_at}
-use Rattle.descriptor_loop.specs.declared.Item.{Item}
 use Rattle.descriptor_loop.specs.declared.ItemRefusal.{ItemRefusal}
 use Rattle.names.specs.Flags.{Answer, network_of, return_of, restrictions_of}
 use Rattle.names.specs.declared.flags.DeviceRestrictions.{DeviceRestrictions}
@@ -37,7 +32,6 @@ use Rattle.names.specs.declared.flags.NetworkIndicator.{NetworkIndicator}
 use Rattle.names.specs.declared.flags.ReturnMode.{ReturnMode}
 use Rattle.section.specs.Section.{command_type, command_bytes, loop_bytes, malformed_command, section_of, loop_length, number_of}
 use Rattle.section.specs.declared.Section.{Section}
-use Rattle.section.specs.declared.SectionRead.{SectionRead}
 use Rattle.canonical_form.specs.Section.{canonical_section}
 use Rattle.splice_time.specs.Time.{splice_time}
 use Rattle.splice_time.specs.declared.SpliceTime.{SpliceTime}
@@ -52,7 +46,6 @@ use Rattle.upid.specs.Cover.{All}
 use Rattle.upid.specs.Text.{text_of}
 use Rattle.upid.specs.Upid.{check_of, read_of, length_of, reported_of}
 use Rattle.upid.specs.declared.Refusal.{Refusal}
-use Rattle.upid.specs.declared.UpidRead.{UpidRead}
 use Rattle.theorems_rows.specs.Refusals.{StepRefused, end_number, end_values, UpidRefused, kind_of, fixed_lengths, texts, plain_lengths}
 use Rattle.theorems_rows.specs.Sections.{eighteen, nineteen, insert_section, other_insert_section, longer_insert_section, every_identifier, anothers_avail, every_descriptor, every_command}
 use Rattle.theorems_rows.specs.Payloads.{SegmentationReads, UnrefusedAt, MidReads, part_read, kinds_of}
@@ -64,6 +57,8 @@ use Rattle.theorems_rows.proofs.Refusals as refusals
 use Rattle.theorems_rows.proofs.Worked as worked
 use Rattle.theorems_rows.proofs.RowsHold as rows_hold
 use Rattle.theorems_rows.proofs.Examples as examples
+use Rattle.std.proofs.Common.{Ok, Err, Some, None, Result}
+use Rattle.command.specs.declared.CommandRefusal.{CommandRefusal}
 
 -- ---- worked sections
 
@@ -85,13 +80,13 @@ pub all_identifiers_of_a_section : Identified every_identifier (
 all_identifiers_of_a_section = worked.every_identifier_lem
 
 -- "equal readings, only the first canonical": row m's inserts as sections are two, and have equal readings
-pub two_sections_with_equal_readings : (x : Section) × (y : Section) × (section_of insert_section ≡ SectionRead.Is x) × (section_of other_insert_section ≡ SectionRead.Is y)
+pub two_sections_with_equal_readings : (x : Section) × (y : Section) × (section_of insert_section ≡ Ok x) × (section_of other_insert_section ≡ Ok y)
     × SameSections insert_section x other_insert_section y × (insert_section ≡ other_insert_section → ⊥)
 two_sections_with_equal_readings = (worked.insert_reading, worked.insert_reading, worked.insert_read_lem, worked.other_insert_read, worked.same_insert, worked.other_bytes_lem)
 
 -- there are two sections that differ in section_length only: they are other bytes, and read as one
 pub two_sections_with_other_lengths : (others : List ℕ) × Around 0xFC others insert_section × Around 0xFC others longer_insert_section × (insert_section ≡ longer_insert_section → ⊥)
-    × (x : Section) × (section_of longer_insert_section ≡ SectionRead.Is x)
+    × (x : Section) × (section_of longer_insert_section ≡ Ok x)
 two_sections_with_other_lengths = (
   worked.insert_others,
   worked.its_length,
@@ -117,34 +112,34 @@ canonical_sections_with_every_command = worked.every_command_canonical
 
 -- ---- 5: "a header alone under 11, its only refusal"
 
-pub a_header_under_11_bytes_is_refused_with_5 : (s : List ℕ) → length s < 11 → (header_of s ≡ HeaderRead.NoHeader) × (header.number_of (header_of s) ≡ 5)
+pub a_header_under_11_bytes_is_refused_with_5 : (s : List ℕ) → length s < 11 → (header_of s ≡ None) × (header.number_of (header_of s) ≡ 5)
 a_header_under_11_bytes_is_refused_with_5 s h = (header_refused s h, rw (header_refused s h))
 
-pub any_other_header_is_read : (s : List ℕ) → 11 ≤ length s → (x : SpliceInfoHeader) × (header_of s ≡ HeaderRead.Header x)
+pub any_other_header_is_read : (s : List ℕ) → 11 ≤ length s → (x : SpliceInfoHeader) × (header_of s ≡ Some x)
 any_other_header_is_read = header_there
 
 -- ---- 11: "command payload malformed": where the table of the command's type does not read the payload, and nowhere else; a null and a reservation have none
 
 pub a_command_is_malformed_where_its_table_lacks_bytes : (payload : List ℕ) (expected actual : ℕ)
-    → (parse insert (bits_of payload) 0 ≡ short expected actual → command_of 0x05 payload ≡ CommandRead.Malformed)
-    × (parse splice_time (bits_of payload) 0 ≡ short expected actual → command_of 0x06 payload ≡ CommandRead.Malformed)
-    × (parse private (bits_of payload) 0 ≡ short expected actual → command_of 0xff payload ≡ CommandRead.Malformed)
-    × (0 < length payload → (command_of 0x00 payload ≡ CommandRead.Malformed) × (command_of 0x07 payload ≡ CommandRead.Malformed))
+    → (parse insert (bits_of payload) 0 ≡ short expected actual → command_of 0x05 payload ≡ Err CommandRefusal.Malformed)
+    × (parse splice_time (bits_of payload) 0 ≡ short expected actual → command_of 0x06 payload ≡ Err CommandRefusal.Malformed)
+    × (parse private (bits_of payload) 0 ≡ short expected actual → command_of 0xff payload ≡ Err CommandRefusal.Malformed)
+    × (0 < length payload → (command_of 0x00 payload ≡ Err CommandRefusal.Malformed) × (command_of 0x07 payload ≡ Err CommandRefusal.Malformed))
 unfolding command_of
 a_command_is_malformed_where_its_table_lacks_bytes payload expected actual =
     (λ e. rw e, λ e. rw e, λ e. rw e, λ h. let z : eqb (length payload) 0 ≡ false = ne_eqb (length payload) 0 (λ e. omega arith) in (rw z, rw z))
 
 pub a_command_that_its_table_reads_is_read : (payload : List ℕ) (end : ℕ)
-    → ((x : WithComponents SpliceInsert) → parse insert (bits_of payload) 0 ≡ got x end → command_of 0x05 payload ≡ CommandRead.Is (SpliceCommand.SpliceInsert x.value))
-    × ((t : SpliceTime) → parse splice_time (bits_of payload) 0 ≡ got t end → command_of 0x06 payload ≡ CommandRead.Is (SpliceCommand.TimeSignal t))
-    × ((p : Private) → parse private (bits_of payload) 0 ≡ got p end → command_of 0xff payload ≡ CommandRead.Is (SpliceCommand.PrivateCommand p))
-    × (command_of 0x00 [] ≡ CommandRead.Is SpliceCommand.SpliceNull) × (command_of 0x07 [] ≡ CommandRead.Is SpliceCommand.BandwidthReservation)
+    → ((x : WithComponents SpliceInsert) → parse insert (bits_of payload) 0 ≡ got x end → command_of 0x05 payload ≡ Ok (SpliceCommand.SpliceInsert x.value))
+    × ((t : SpliceTime) → parse splice_time (bits_of payload) 0 ≡ got t end → command_of 0x06 payload ≡ Ok (SpliceCommand.TimeSignal t))
+    × ((p : Private) → parse private (bits_of payload) 0 ≡ got p end → command_of 0xff payload ≡ Ok (SpliceCommand.PrivateCommand p))
+    × (command_of 0x00 [] ≡ Ok SpliceCommand.SpliceNull) × (command_of 0x07 [] ≡ Ok SpliceCommand.BandwidthReservation)
 unfolding command_of
 a_command_that_its_table_reads_is_read payload end = (λ x e. rw e, λ t e. rw e, λ p e. rw e, refl, refl)
 
 -- condition 11 of a section is that of its command's bytes
-pub condition_11_is_of_the_command : (s : List ℕ) → (command_of (command_type s) (command_bytes s) ≡ CommandRead.Malformed → malformed_command s ≡ true)
-    × (malformed_command s ≡ true → command_of (command_type s) (command_bytes s) ≡ CommandRead.Malformed)
+pub condition_11_is_of_the_command : (s : List ℕ) → (command_of (command_type s) (command_bytes s) ≡ Err CommandRefusal.Malformed → malformed_command s ≡ true)
+    × (malformed_command s ≡ true → command_of (command_type s) (command_bytes s) ≡ Err CommandRefusal.Malformed)
 condition_11_is_of_the_command s = (λ e. rw e, λ e. refusals.malformed_only (command_of (command_type s) (command_bytes s)) e)
 
 -- ---- 12: "a flag number over 1 or a restriction number over 3"
@@ -170,7 +165,7 @@ pub a_loop_over_4076_bytes_is_refused_with_2 : (loop : List ℕ) (offset : ℕ) 
 a_loop_over_4076_bytes_is_refused_with_2 = refusals.refusal_2
 
 -- "At or past the end it says so, next offset the length"
-pub at_or_past_the_end_it_says_so : (loop : List ℕ) (offset : ℕ) → length loop ≤ 4076 → length loop ≤ offset → ((step_of loop offset).item ≡ Item.End) × ((step_of loop offset).next ≡ length loop)
+pub at_or_past_the_end_it_says_so : (loop : List ℕ) (offset : ℕ) → length loop ≤ 4076 → length loop ≤ offset → ((step_of loop offset).item ≡ None) × ((step_of loop offset).next ≡ length loop)
 at_or_past_the_end_it_says_so = refusals.at_the_end
 
 -- "R from 1 to 5: refusal 21 (2, 0); the loop ends, next offset its length"
@@ -208,51 +203,51 @@ pub any_other_item_is_read_by_its_descriptor : (loop : List ℕ) (offset : ℕ) 
 any_other_item_is_read_by_its_descriptor = refusals.else_read
 
 -- a refusal is no reading: of whatever refused item, components, EIDR and identifier are blank
-pub nothing_stands_beside_a_refused_item : (loop : List ℕ) (offset : ℕ) (r : ItemRefusal) → (step_of loop offset).item ≡ Item.Refused r
+pub nothing_stands_beside_a_refused_item : (loop : List ℕ) (offset : ℕ) (r : ItemRefusal) → (step_of loop offset).item ≡ Some (Err r)
     → ((reading_of loop offset).beside ≡ blank_beside) × ((step_of loop offset).identifier ≡ replicate 4 0)
 nothing_stands_beside_a_refused_item = refusals.nothing_beside
 
 -- ---- the kind is what tag and identifier say
 
 -- "Identifier "CUEI", by tag: 0 avail, 1 DTMF, 2 segmentation, 3 time": what is read is of that kind
-pub a_descriptor_of_cuei_is_of_its_tag : (s : List ℕ) (tag : ℕ) (d : Descriptor) → tag ≤ 3 → descriptor_of tag cuei s ≡ DescriptorRead.Is d → kind_of d ≡ tag
+pub a_descriptor_of_cuei_is_of_its_tag : (s : List ℕ) (tag : ℕ) (d : Descriptor) → tag ≤ 3 → descriptor_of tag cuei s ≡ Ok d → kind_of d ≡ tag
 a_descriptor_of_cuei_is_of_its_tag = refusals.cuei_kind
 
 -- "Other tags or identifiers: reserved, with tag, identifier and bytes": never refused, and with all bytes
-pub another_tag_is_reserved : (s : List ℕ) (tag : ℕ) (id : List ℕ) → 3 < tag → descriptor_of tag id s ≡ DescriptorRead.Is (Descriptor.Reserved tag (record { at = 0; len = length s }))
+pub another_tag_is_reserved : (s : List ℕ) (tag : ℕ) (id : List ℕ) → 3 < tag → descriptor_of tag id s ≡ Ok (Descriptor.Reserved tag (record { at = 0; len = length s }))
 another_tag_is_reserved s tag id h = refusals.other_tag s tag id h ∙ sym (reserved_is s tag)
 
 pub another_identifier_is_reserved : (s : List ℕ) (tag a b c d : ℕ) → (a ≡ 0x43 → b ≡ 0x55 → c ≡ 0x45 → d ≡ 0x49 → ⊥)
-    → descriptor_of tag (a ∷ b ∷ c ∷ d ∷ []) s ≡ DescriptorRead.Is (Descriptor.Reserved tag (record { at = 0; len = length s }))
+    → descriptor_of tag (a ∷ b ∷ c ∷ d ∷ []) s ≡ Ok (Descriptor.Reserved tag (record { at = 0; len = length s }))
 another_identifier_is_reserved s tag a b c d h = refusals.other_identifier s tag a b c d h ∙ sym (reserved_is s tag)
 
 -- "0 avail: 32 bits. Shorter: 21 (4, actual)"
-pub an_avail_is_read_of_4_bytes : (s : List ℕ) → (length s < 4 → descriptor_of 0 cuei s ≡ DescriptorRead.Refused (Refusal.NotEnoughData 4 (length s)))
-    × (4 ≤ length s → descriptor_of 0 cuei s ≡ DescriptorRead.Is (Descriptor.Avail (record { provider_avail_id = field (bits_of s) 0 32 })))
+pub an_avail_is_read_of_4_bytes : (s : List ℕ) → (length s < 4 → descriptor_of 0 cuei s ≡ Err (Refusal.NotEnoughData 4 (length s)))
+    × (4 ≤ length s → descriptor_of 0 cuei s ≡ Ok (Descriptor.Avail (record { provider_avail_id = field (bits_of s) 0 32 })))
 unfolding descriptor_of is_cuei
 an_avail_is_read_of_4_bytes s = (λ h. sym (avail_short s h), λ h. sym (avail_is s _ h refl))
 
 -- "3 time: seconds 48, nanoseconds 32, offset 16. Shorter: 21 (12, actual)"
-pub a_time_is_read_of_12_bytes : (s : List ℕ) → (length s < 12 → descriptor_of 3 cuei s ≡ DescriptorRead.Refused (Refusal.NotEnoughData 12 (length s)))
+pub a_time_is_read_of_12_bytes : (s : List ℕ) → (length s < 12 → descriptor_of 3 cuei s ≡ Err (Refusal.NotEnoughData 12 (length s)))
     × (12 ≤ length s → descriptor_of 3 cuei s
-    ≡ DescriptorRead.Is (Descriptor.Time (record { tai_seconds = field (bits_of s) 0 48; tai_nanoseconds = field (bits_of s) 48 32; utc_offset = field (bits_of s) 80 16 })))
+    ≡ Ok (Descriptor.Time (record { tai_seconds = field (bits_of s) 0 48; tai_nanoseconds = field (bits_of s) 48 32; utc_offset = field (bits_of s) 80 16 })))
 unfolding descriptor_of is_cuei
 a_time_is_read_of_12_bytes s = (λ h. sym (time_short s h), λ h. sym (time_is s _ _ _ h refl refl refl))
 
 -- "1 DTMF: preroll 8, count 3, reserved 5, count bytes": 21 where its table lacks bytes of a field, w/8 and m/8 of it; and so by bytes. Else it is read.
 pub a_dtmf_is_refused_with_21_where_its_table_lacks_bytes : (s : List ℕ) (expected actual : ℕ) → parse dtmf (bits_of s) 0 ≡ short expected actual
-    → descriptor_of 1 cuei s ≡ DescriptorRead.Refused (Refusal.NotEnoughData expected actual)
+    → descriptor_of 1 cuei s ≡ Err (Refusal.NotEnoughData expected actual)
 a_dtmf_is_refused_with_21_where_its_table_lacks_bytes = payloads.dtmf_lacks
 
-pub a_dtmf_that_its_table_reads_is_read : (s : List ℕ) (x : DTMFDescriptor) (end : ℕ) → parse dtmf (bits_of s) 0 ≡ got x end → descriptor_of 1 cuei s ≡ DescriptorRead.Is (Descriptor.Dtmf x)
+pub a_dtmf_that_its_table_reads_is_read : (s : List ℕ) (x : DTMFDescriptor) (end : ℕ) → parse dtmf (bits_of s) 0 ≡ got x end → descriptor_of 1 cuei s ≡ Ok (Descriptor.Dtmf x)
 a_dtmf_that_its_table_reads_is_read = payloads.dtmf_reads
 
 pub a_dtmf_is_read_of_as_many_bytes_as_it_counts : (s : List ℕ) → AllBytes s
-    → (length s ≡ 0 → descriptor_of 1 cuei s ≡ DescriptorRead.Refused (Refusal.NotEnoughData 1 0))
-    × (length s ≡ 1 → descriptor_of 1 cuei s ≡ DescriptorRead.Refused (Refusal.NotEnoughData 0 0))
-    × (2 ≤ length s → length s < 2 + get_or s 1 0 / 32 → descriptor_of 1 cuei s ≡ DescriptorRead.Refused (Refusal.NotEnoughData 1 0))
+    → (length s ≡ 0 → descriptor_of 1 cuei s ≡ Err (Refusal.NotEnoughData 1 0))
+    × (length s ≡ 1 → descriptor_of 1 cuei s ≡ Err (Refusal.NotEnoughData 0 0))
+    × (2 ≤ length s → length s < 2 + get_or s 1 0 / 32 → descriptor_of 1 cuei s ≡ Err (Refusal.NotEnoughData 1 0))
     × (2 ≤ length s → 2 + get_or s 1 0 / 32 ≤ length s
-    → descriptor_of 1 cuei s ≡ DescriptorRead.Is (Descriptor.Dtmf (record { preroll = get_or s 0 0; dtmf_chars = record { at = 2; len = get_or s 1 0 / 32 } })))
+    → descriptor_of 1 cuei s ≡ Ok (Descriptor.Dtmf (record { preroll = get_or s 0 0; dtmf_chars = record { at = 2; len = get_or s 1 0 / 32 } })))
 a_dtmf_is_read_of_as_many_bytes_as_it_counts s a = (payloads.no_preroll s, payloads.no_count s, payloads.no_characters s a, payloads.characters s a)
 
 -- "2 segmentation": every payload is refused with 21 where its table lacks bytes (unless a UPID that is refused stands before), with the UPID's refusal, or read, as `SegmentationReads`
@@ -260,13 +255,13 @@ a_dtmf_is_read_of_as_many_bytes_as_it_counts s a = (payloads.no_preroll s, paylo
 pub what_is_read_of_a_segmentation : (s : List ℕ) → SegmentationReads s (descriptor_of 2 cuei s)
 what_is_read_of_a_segmentation = payloads.reads
 
-pub nothing_else_is_read_of_a_segmentation : (s : List ℕ) (a b : DescriptorRead) → SegmentationReads s a → SegmentationReads s b → a ≡ b
+pub nothing_else_is_read_of_a_segmentation : (s : List ℕ) (a b : Result Descriptor Refusal) → SegmentationReads s a → SegmentationReads s b → a ≡ b
 nothing_else_is_read_of_a_segmentation = payloads.reads_one
 
 -- The other way round: an item whose payload nothing refuses is read, as the kind that its tag and identifier say
 pub an_item_that_nothing_refuses_is_read : (loop : List ℕ) (offset : ℕ) → length loop ≤ 4076 → offset + 6 ≤ length loop → get_or loop (offset + 1) 0 + 2 ≤ length loop - offset
     → 4 ≤ get_or loop (offset + 1) 0 → get_or loop (offset + 1) 0 ≤ 254 → (kind : ℕ)
-    → UnrefusedAt loop offset kind → (d : Descriptor) × ((step_of loop offset).item ≡ Item.Is d) × (kind_of d ≡ kind)
+    → UnrefusedAt loop offset kind → (d : Descriptor) × ((step_of loop offset).item ≡ Some (Ok d)) × (kind_of d ≡ kind)
 an_item_that_nothing_refuses_is_read = payloads.item_read
 
 -- and there are such items of each kind: those of the loop with every kind of descriptor, and an avail that another identifier makes reserved
@@ -303,16 +298,16 @@ pub a_text_that_is_no_utf8_is_refused_with_24 : (b : List ℕ) → 1 ≤ length 
 a_text_that_is_no_utf8_is_refused_with_24 = refusals.upid_no_text
 
 -- and no other is refused: texts, types of a fixed length (both ISANs report 6), and all other types, which take any bytes
-pub a_text_is_read : (b : List ℕ) → 1 ≤ length b → length b ≤ 255 → All (λ (t : ℕ × ℕ). length b ≡ t.1 → text_of b ≡ true → check_of t.0 b ≡ UpidRead.Fine t.0) texts
+pub a_text_is_read : (b : List ℕ) → 1 ≤ length b → length b ≤ 255 → All (λ (t : ℕ × ℕ). length b ≡ t.1 → text_of b ≡ true → check_of t.0 b ≡ Ok t.0) texts
 a_text_is_read = refusals.upid_text
 
-pub a_upid_of_its_length_is_read : (b : List ℕ) → 1 ≤ length b → length b ≤ 255 → All (λ (t : ℕ × (ℕ × ℕ)). length b ≡ t.1.0 → check_of t.0 b ≡ UpidRead.Fine t.1.1) plain_lengths
+pub a_upid_of_its_length_is_read : (b : List ℕ) → 1 ≤ length b → length b ≤ 255 → All (λ (t : ℕ × (ℕ × ℕ)). length b ≡ t.1.0 → check_of t.0 b ≡ Ok t.1.1) plain_lengths
 a_upid_of_its_length_is_read = refusals.upid_of_length
 
-pub untested_types_take_any_bytes : (b : List ℕ) → 1 ≤ length b → length b ≤ 255 → All (λ (k : ℕ). check_of k b ≡ UpidRead.Fine k) (1 ∷ 9 ∷ 11 ∷ 12 ∷ 14 ∷ [])
+pub untested_types_take_any_bytes : (b : List ℕ) → 1 ≤ length b → length b ≤ 255 → All (λ (k : ℕ). check_of k b ≡ Ok k) (1 ∷ 9 ∷ 11 ∷ 12 ∷ 14 ∷ [])
 untested_types_take_any_bytes = refusals.upid_untested
 
-pub types_above_14_take_any_bytes : (b : List ℕ) → 1 ≤ length b → length b ≤ 255 → (k : ℕ) → 15 ≤ k → check_of k b ≡ UpidRead.Fine k
+pub types_above_14_take_any_bytes : (b : List ℕ) → 1 ≤ length b → length b ≤ 255 → (k : ℕ) → 15 ≤ k → check_of k b ≡ Ok k
 types_above_14_take_any_bytes = refusals.upid_above_14
 
 -- A MID, part by part: 21 for what its bytes lack, the refusal of its first faulty part, and else it is read (`MidReads`, specs/Payloads.antt); a part is read as the UPID alone, but an empty one is no None
@@ -325,19 +320,19 @@ a_mid_at_top_is_read_so = mids.mid_at_top
 pub a_part_is_read_as_the_upid_alone : (k start : ℕ) (b : List ℕ) → (k ≡ 13 → ⊥) → 1 ≤ length b → length b ≤ 255 → read_of k start b ≡ part_read start (check_of k b)
 a_part_is_read_as_the_upid_alone = mids.part_alone
 
-pub an_empty_part_is_read_by_its_type : (k start : ℕ) → (k ≡ 13 → ⊥) → (k ≡ 0 → read_of k start [] ≡ UpidRead.Refused Refusal.UpidLengthTypeMismatch)
-    × ((k ≡ 0 → ⊥) → 1 ≤ length_of k → read_of k start [] ≡ UpidRead.Refused (Refusal.InvalidUpidLength k (length_of k) 0))
-    × ((k ≡ 0 → ⊥) → length_of k ≡ 0 → read_of k start [] ≡ UpidRead.Fine (reported_of k))
+pub an_empty_part_is_read_by_its_type : (k start : ℕ) → (k ≡ 13 → ⊥) → (k ≡ 0 → read_of k start [] ≡ Err Refusal.UpidLengthTypeMismatch)
+    × ((k ≡ 0 → ⊥) → 1 ≤ length_of k → read_of k start [] ≡ Err (Refusal.InvalidUpidLength k (length_of k) 0))
+    × ((k ≡ 0 → ⊥) → length_of k ≡ 0 → read_of k start [] ≡ Ok (reported_of k))
 an_empty_part_is_read_by_its_type = mids.part_empty
 
 -- ---- 36: "target shorter than the result", and no other target
 
 pub a_target_that_is_long_enough_is_written : (b target : List ℕ) → length b ≤ length target
-    → (answer_of (made b) target ≡ Written.Wrote (length b)) × (later_of (made b) target ≡ b ++ drop (length b) target)
+    → (answer_of (made b) target ≡ Ok (length b)) × (later_of (made b) target ≡ b ++ drop (length b) target)
 unfolding answer_of later_of
 a_target_that_is_long_enough_is_written b target h = let e = le-leb (length b) (length target) h in (rw e, rw e)
 
-pub a_shorter_target_is_refused_with_36 : (b target : List ℕ) → length target < length b → (answer_of (made b) target ≡ Written.Refused 36) × (later_of (made b) target ≡ target)
+pub a_shorter_target_is_refused_with_36 : (b target : List ℕ) → length target < length b → (answer_of (made b) target ≡ Err 36) × (later_of (made b) target ≡ target)
 unfolding answer_of later_of
 a_shorter_target_is_refused_with_36 b target h = let e = lt-leb (length b) (length target) h in (rw e, rw e)
 
@@ -352,7 +347,7 @@ pub sections_of_18_and_19_bytes_give_8 : (s : List ℕ) → EmptyCommand s → 1
 sections_of_18_and_19_bytes_give_8 = examples.no_loop_length
 
 -- "20 with loop length 0 and command type 0 is accepted."
-pub sections_of_20_bytes_are_accepted : (s : List ℕ) → EmptyCommand s → length s ≡ 20 → loop_length s ≡ 0 → command_type s ≡ 0 → (x : Section) × (section_of s ≡ SectionRead.Is x)
+pub sections_of_20_bytes_are_accepted : (s : List ℕ) → EmptyCommand s → length s ≡ 20 → loop_length s ≡ 0 → command_type s ≡ 0 → (x : Section) × (section_of s ≡ Ok x)
 sections_of_20_bytes_are_accepted = examples.empty_accepted
 
 -- there is one

@@ -12,7 +12,6 @@ use Rattle.splice_time.specs.Break.{break_duration}
 use Rattle.command.specs.declared.SpliceCommand.{SpliceCommand}
 use Rattle.command.specs.declared.insert.SpliceDetail.{SpliceDetail}
 use Rattle.command.specs.declared.insert.SpliceMode.{SpliceMode}
-use Rattle.splice_time.specs.declared.break_duration.Break.{Break}
 use Rattle.names.specs.declared.flags.NetworkIndicator.{NetworkIndicator}
 use Rattle.canonical_form.specs.Command.{canonical_command}
 use Rattle.descriptor.specs.Segmentation as segment
@@ -32,7 +31,6 @@ use Rattle.names.specs.Algorithm.{algorithm_of}
 use Rattle.names.specs.Command as names
 use Rattle.section.specs.Section.{command_length, command_type, command_bytes, loop_bytes, room_after, loop_length, loop_place, frame_in, moved, moved_read, accepted, frame_of, section_of, number_of}
 use Rattle.section.specs.declared.Section.{Section}
-use Rattle.section.specs.declared.SectionRead.{SectionRead}
 use Rattle.table.proofs.Lists.{zero_one}
 use Rattle.table.specs.Bits.{bits_of}
 use Rattle.table.specs.Lent.{viewed}
@@ -43,10 +41,10 @@ use Rattle.canonical_form.specs.Same.{SameSections}
 use Rattle.theorems_rows.specs.Examples.{EmptyCommand, Identified}
 use Rattle.theorems_rows.specs.Payloads.{UpidIn, written_in, checked_in, Unrefused, UnrefusedAt, kinds_of}
 use Rattle.upid.specs.Cover.{All, none, more}
-use Rattle.upid.specs.declared.UpidRead.{UpidRead}
 use Rattle.upid.specs.Text.{text_of, done, step, within}
 use Rattle.upid.specs.Upid.{upid_of, check_of, read_of, walk_of, ◌then◌, plain_of, length_of, is_text, reported_of, list_of, parts_of, listed, unless_refused, eidr_of}
 use Rattle.theorems_rows.specs.Sections.{eighteen, nineteen, insert_section, other_insert_section, longer_insert_section, every_identifier, anothers_avail, every_descriptor, every_command, null_section, program_insert_section, cancelled_insert_section, bandwidth_section, private_section}
+use Rattle.std.proofs.Common.{Ok, None}
 
 pub eighteen_is_one : EmptyCommand eighteen × (length eighteen ≡ 18)
 unfolding crc_of crc_bits crc_bit command_length
@@ -108,7 +106,7 @@ insert_reading = record {
     splice_detail = SpliceDetail.Insert (record {
       network_indicator = NetworkIndicator.In;
       splice_mode = SpliceMode.Components 0;
-      duration = Break.Absent;
+      duration = None;
       unique_program_id = 0;
       avail_num = 0;
       avails_expected = 0;
@@ -118,11 +116,11 @@ insert_reading = record {
   payload = record { at = 14; len = 11 };
 }
 
-pub insert_read_lem : section_of insert_section ≡ SectionRead.Is insert_reading
+pub insert_read_lem : section_of insert_section ≡ Ok insert_reading
 unfolding insert_reading section_of frame_of frame_in accepted moved_read moved command_length command_type command_bytes room_after loop_length loop_place crc_of crc_bits crc_bit header_of header_read splice_header command_of insert active moded ending break_duration time_unless component number bit reserved part remaining list
 insert_read_lem = refl
 
-pub other_insert_read : section_of other_insert_section ≡ SectionRead.Is insert_reading
+pub other_insert_read : section_of other_insert_section ≡ Ok insert_reading
 unfolding insert_reading section_of frame_of frame_in accepted moved_read moved command_length command_type command_bytes room_after loop_length loop_place crc_of crc_bits crc_bit header_of header_read splice_header command_of insert active moded ending break_duration time_unless component number bit reserved part remaining list
 other_insert_read = refl
 
@@ -187,8 +185,8 @@ unrefused_dtmf = Unrefused.a_dtmf refl refl (record { preroll = 0xB1; dtmf_chars
 
 -- a UPID that its own rules read, where the tables up to it read these
 module _ (p : List ℕ) (h : Head) (m : ℕ) (heads : parse head (bits_of p) 0 ≡ got h m) where
-  upid_read_lem : (f : ListedFront) (n k : ℕ) → parse front (bits_of p) m ≡ got f n → checked_in p f.front.segmentation_upid ≡ UpidRead.Fine k
-      → (u : UpidIn p) → (k : ℕ) × (checked_in p (written_in u) ≡ UpidRead.Fine k)
+  upid_read_lem : (f : ListedFront) (n k : ℕ) → parse front (bits_of p) m ≡ got f n → checked_in p f.front.segmentation_upid ≡ Ok k
+      → (u : UpidIn p) → (k : ℕ) × (checked_in p (written_in u) ≡ Ok k)
   upid_read_lem f n k fronts fine u =
       let z : got h m ≡ got u.first u.seam = sym heads ∙ u.heads in
       let seam : m ≡ u.seam = cc in

@@ -1,10 +1,9 @@
 -- Sections that are worked out: document 01's of 18, 19 and 20 bytes, and one with a MID of two identifiers, of 8 bytes and
 -- of 12.
-use Rattle.std.specs.Prelude.{ℕ, List, [], ◌∷◌, ◌++◌, ◌≡◌, get_or}
+use Rattle.std.specs.Prelude.{ℕ, List, [], ◌∷◌, ◌++◌, ◌≡◌, get_or, Ok}
 use Rattle.crc.specs.Crc.{crc_of}
 use Rattle.section.specs.Section.{command_length, section_of}
 use Rattle.section.specs.declared.Section.{Section}
-use Rattle.section.specs.declared.SectionRead.{SectionRead}
 use Rattle.table.specs.Bits.{bits_of, field}
 use Rattle.theorems_reader.specs.Identifiers.{Identifier, identifiers_of}
 
@@ -44,5 +43,5 @@ eight_and_twelve =
 -- a section is accepted, and has these identifiers
 pub record Identified (s : List ℕ) (ids : List Identifier) : Type 0 where
   pub section : Section
-  pub accepted : section_of s ≡ SectionRead.Is section
+  pub accepted : section_of s ≡ Ok section
   pub identified : identifiers_of s section ≡ ids

@@ -1,19 +1,17 @@
 -- A refusal by 01's number and values.
-use Rattle.std.specs.Prelude.{ℕ, ◌+◌, List, [], ◌∷◌, ◌≡◌, get_or}
+use Rattle.std.specs.Prelude.{ℕ, ◌+◌, List, [], ◌∷◌, ◌≡◌, get_or, Err, Some, Result}
 use Rattle.descriptor.specs.declared.Descriptor.{Descriptor}
 use Rattle.descriptor_loop.specs.Cover.{Ends}
 use Rattle.descriptor_loop.specs.Items as items
-use Rattle.descriptor_loop.specs.declared.Item.{Item}
 use Rattle.descriptor_loop.specs.declared.ItemRefusal.{ItemRefusal}
 use Rattle.descriptor_loop.specs.declared.Step.{Step}
 use Rattle.upid.specs.Upid as upid
 use Rattle.upid.specs.declared.Refusal.{Refusal}
-use Rattle.upid.specs.declared.UpidRead.{UpidRead}
 
 -- the step refuses the item with this number and these values, and goes on at `next`
 pub record StepRefused (s : Step) (n : ℕ) (values : List ℕ) (next : ℕ) : Type 0 where
   pub refusal : ItemRefusal
-  pub is : s.item ≡ Item.Refused refusal
+  pub is : s.item ≡ Some (Err refusal)
   pub number : items.number_of refusal ≡ n
   pub told : items.values_of refusal ≡ values
   pub goes : s.next ≡ next
@@ -30,9 +28,9 @@ end_values {rest} (Ends.over a b) = (get_or rest 1 0 + 2) ∷ 0 ∷ []
 end_values (Ends.full a b) = []
 
 -- a UPID is refused with this number and these values
-pub record UpidRefused (r : UpidRead) (n : ℕ) (values : List ℕ) : Type 0 where
+pub record UpidRefused (r : Result ℕ Refusal) (n : ℕ) (values : List ℕ) : Type 0 where
   pub refusal : Refusal
-  pub is : r ≡ UpidRead.Refused refusal
+  pub is : r ≡ Err refusal
   pub number : upid.number_of refusal ≡ n
   pub told : upid.values_of refusal ≡ values
 

@@ -1,31 +1,28 @@
 -- Rows a to n of document 01, "Worked rows", in one table. That every row holds is `rows_a_to_n_hold` in proofs/Theorems.antt.
-use Rattle.std.specs.Prelude.{ℕ, zero, suc, ◌+◌, true, false, List, [], ◌∷◌, ◌++◌, map, ◌≡◌}
+use Rattle.std.specs.Prelude.{ℕ, zero, suc, ◌+◌, true, false, List, [], ◌∷◌, ◌++◌, map, ◌≡◌, Ok, Err, Some, None, Option, Result}
 use Rattle.canonical_form.specs.Command.{canonical_command}
 use Rattle.command.specs.Command.{command_of, components_of}
-use Rattle.command.specs.declared.CommandRead.{CommandRead}
 use Rattle.command.specs.declared.SpliceCommand.{SpliceCommand}
 use Rattle.command.specs.declared.insert.SpliceInsert.{SpliceInsert}
 use Rattle.descriptor.specs.Descriptor.{cuei, segmentation_of}
 use Rattle.descriptor.specs.Segmentation.{blank_upid}
 use Rattle.descriptor.specs.declared.Descriptor.{Descriptor}
-use Rattle.descriptor.specs.declared.DescriptorRead.{DescriptorRead}
 use Rattle.descriptor.specs.declared.plain.TimeDescriptor.{TimeDescriptor}
-use Rattle.descriptor.specs.declared.segmentation.DeliveryRestrictionFlags.{DeliveryRestrictionFlags}
 use Rattle.descriptor.specs.declared.segmentation.SegmentationDescriptor.{SegmentationDescriptor}
 use Rattle.descriptor.specs.declared.segmentation.DescriptorDetail.{DescriptorDetail}
-use Rattle.descriptor.specs.declared.segmentation.SegmentationDuration.{SegmentationDuration}
 use Rattle.descriptor.specs.declared.segmentation.SegmentationMode.{SegmentationMode}
-use Rattle.descriptor.specs.declared.segmentation.SubSegments.{SubSegments}
 use Rattle.splice_time.specs.declared.SpliceTime.{SpliceTime}
 use Rattle.descriptor_loop.specs.Items as items
 use Rattle.descriptor_loop.specs.Items.{Listed, items_of}
-use Rattle.descriptor_loop.specs.declared.Item.{Item}
 use Rattle.names.specs.declared.segmentation.SegmentationTypeId.{SegmentationTypeId}
 use Rattle.table.specs.Lent.{viewed}
 use Rattle.upid.specs.Upid as upids
 use Rattle.upid.specs.Upid.{upid_of, parts_in}
 use Rattle.upid.specs.declared.Part.{Part}
-use Rattle.upid.specs.declared.UpidRead.{UpidRead}
+use Rattle.command.specs.declared.CommandRefusal.{CommandRefusal}
+use Rattle.upid.specs.declared.Refusal.{Refusal}
+use Rattle.descriptor.specs.declared.segmentation.SubSegment.{SubSegment}
+use Rattle.descriptor_loop.specs.declared.ItemRefusal.{ItemRefusal}
 
 -- ---- what is read, in document 01's terms
 
@@ -51,26 +48,26 @@ descriptor_says lent id (Descriptor.Segmentation x) = segmentation x
 descriptor_says lent id (Descriptor.Time x) = time x
 descriptor_says lent id (Descriptor.Reserved tag bytes) = reserved tag id (viewed lent bytes)
 
-abbrev pub item_says : List ℕ → List ℕ → Item → Says
-item_says loop id Item.End = ended
-item_says loop id (Item.Refused r) = refused (items.number_of r) (items.values_of r)
-item_says loop id (Item.Is d) = descriptor_says loop id d
+abbrev pub item_says : List ℕ → List ℕ → Option (Result Descriptor ItemRefusal) → Says
+item_says loop id None = ended
+item_says loop id (Some (Err r)) = refused (items.number_of r) (items.values_of r)
+item_says loop id (Some (Ok d)) = descriptor_says loop id d
 
 abbrev pub listed_says : List ℕ → Listed → Says
 listed_says loop x = item_says loop x.step.identifier x.step.item
 
-abbrev pub payload_says : List ℕ → DescriptorRead → Says
-payload_says payload (DescriptorRead.Is d) = descriptor_says payload [] d
-payload_says payload (DescriptorRead.Refused r) = refused (upids.number_of r) (upids.values_of r)
+abbrev pub payload_says : List ℕ → Result Descriptor Refusal → Says
+payload_says payload (Ok d) = descriptor_says payload [] d
+payload_says payload (Err r) = refused (upids.number_of r) (upids.values_of r)
 
-abbrev pub upid_says : UpidRead → List Part → Says
-upid_says (UpidRead.Fine upid_type_number) parts = upid upid_type_number parts
-upid_says (UpidRead.Refused r) parts = refused (upids.number_of r) (upids.values_of r)
+abbrev pub upid_says : Result ℕ Refusal → List Part → Says
+upid_says (Ok upid_type_number) parts = upid upid_type_number parts
+upid_says (Err r) parts = refused (upids.number_of r) (upids.values_of r)
 
-abbrev pub command_says : CommandRead → Says
-command_says (CommandRead.Is c) = command c
-command_says CommandRead.UnknownType = refused 10 []
-command_says CommandRead.Malformed = refused 11 []
+abbrev pub command_says : Result SpliceCommand CommandRefusal → Says
+command_says (Ok c) = command c
+command_says (Err CommandRefusal.UnknownType) = refused 10 []
+command_says (Err CommandRefusal.Malformed) = refused 11 []
 
 -- ---- what a row claims
 
@@ -89,8 +86,8 @@ pub data Row : Type 0 where
 -- "equal readings, only the first canonical", which is what `is_canonical_command` answers
 pub record Alike (first second : List ℕ) : Type 0 where
   pub value : SpliceInsert
-  pub this : command_of 0x05 first ≡ CommandRead.Is (SpliceCommand.SpliceInsert value)
-  pub that : command_of 0x05 second ≡ CommandRead.Is (SpliceCommand.SpliceInsert value)
+  pub this : command_of 0x05 first ≡ Ok (SpliceCommand.SpliceInsert value)
+  pub that : command_of 0x05 second ≡ Ok (SpliceCommand.SpliceInsert value)
   pub components : components_of first ≡ components_of second
   pub first_is : canonical_command 0x05 first ≡ true
   pub second_is_not : canonical_command 0x05 second ≡ false
@@ -114,16 +111,16 @@ counting from zero = []
 counting from (suc n) = from ∷ counting (from + 1) n
 
 -- event 42: a program start, 1 of 1, without restrictions, duration or UPID
-abbrev pub program_start : SubSegments → SegmentationDescriptor
+abbrev pub program_start : Option SubSegment → SegmentationDescriptor
 program_start sub = record {
   segmentation_event_id = 42;
   descriptor_detail = DescriptorDetail.Active (record {
     program_segmentation_flag = true;
     segmentation_duration_flag = false;
     delivery_not_restricted_flag = true;
-    delivery_restrictions = DeliveryRestrictionFlags.None;
+    delivery_restrictions = None;
     segmentation_mode = SegmentationMode.Program;
-    segmentation_duration = SegmentationDuration.Absent;
+    segmentation_duration = None;
     segmentation_upid = blank_upid;
     segmentation_type_id = SegmentationTypeId.ProgramStart;
     segment_num = 1;
@@ -161,7 +158,7 @@ rows =
     -- "m. insert 00 00 00 01 7F 0F 00 00 00 00 00 and the same with 1F: equal readings, only the first canonical."
     ∷ inserts_are (0x00 ∷ 0x00 ∷ 0x00 ∷ 0x01 ∷ 0x7F ∷ 0x0F ∷ 0x00 ∷ 0x00 ∷ 0x00 ∷ 0x00 ∷ 0x00 ∷ []) (0x00 ∷ 0x00 ∷ 0x00 ∷ 0x01 ∷ 0x7F ∷ 0x1F ∷ 0x00 ∷ 0x00 ∷ 0x00 ∷ 0x00 ∷ 0x00 ∷ [])
     -- "n. Segmentation payload 00 00 00 2A 7F BF 00 00 10 01 01: program start, no sub-segments; with 01: 21 (1, 0); with 01 02: sub-segment 1 of 2."
-    ∷ segmentation_is (0x00 ∷ 0x00 ∷ 0x00 ∷ 0x2A ∷ 0x7F ∷ 0xBF ∷ 0x00 ∷ 0x00 ∷ 0x10 ∷ 0x01 ∷ 0x01 ∷ []) (segmentation (program_start SubSegments.Absent))
+    ∷ segmentation_is (0x00 ∷ 0x00 ∷ 0x00 ∷ 0x2A ∷ 0x7F ∷ 0xBF ∷ 0x00 ∷ 0x00 ∷ 0x10 ∷ 0x01 ∷ 0x01 ∷ []) (segmentation (program_start None))
     ∷ segmentation_is (0x00 ∷ 0x00 ∷ 0x00 ∷ 0x2A ∷ 0x7F ∷ 0xBF ∷ 0x00 ∷ 0x00 ∷ 0x10 ∷ 0x01 ∷ 0x01 ∷ 0x01 ∷ []) (refused 21 (1 ∷ 0 ∷ []))
-    ∷ segmentation_is (0x00 ∷ 0x00 ∷ 0x00 ∷ 0x2A ∷ 0x7F ∷ 0xBF ∷ 0x00 ∷ 0x00 ∷ 0x10 ∷ 0x01 ∷ 0x01 ∷ 0x01 ∷ 0x02 ∷ []) (segmentation (program_start (SubSegments.Is (record { sub_segment_num = 1; sub_segments_expected = 2 }))))
+    ∷ segmentation_is (0x00 ∷ 0x00 ∷ 0x00 ∷ 0x2A ∷ 0x7F ∷ 0xBF ∷ 0x00 ∷ 0x00 ∷ 0x10 ∷ 0x01 ∷ 0x01 ∷ 0x01 ∷ 0x02 ∷ []) (segmentation (program_start (Some (record { sub_segment_num = 1; sub_segments_expected = 2 }))))
     ∷ []

@@ -11,12 +11,12 @@ use Rattle.adjust_section.proofs.Stays.{long, reads_again, loop_stays, command_s
 use Rattle.adjust_section.proofs.Theorems.{accepted_number, made_is}
 use Rattle.section.specs.Section.{section_of, number_of}
 use Rattle.section.specs.declared.Section.{Section}
-use Rattle.section.specs.declared.SectionRead.{SectionRead}
 use Rattle.section.proofs.Acceptance.{is_read}
 use Rattle.canonical_form.specs.Section.{canonical_frame, canonical_section}
 use Rattle.table.specs.Writing.{made}
+use Rattle.std.proofs.Common.{Ok}
 
-same : (p : ℕ) (s : List ℕ) (x : Section) → section_of s ≡ SectionRead.Is x → p < 2 ^ 33 → canonical_section (section_with p s) ≡ canonical_section s
+same : (p : ℕ) (s : List ℕ) (x : Section) → section_of s ≡ Ok x → p < 2 ^ 33 → canonical_section (section_with p s) ≡ canonical_section s
 unfolding canonical_section canonical_frame
 same p s x is k =
     let l = long p s x is k in

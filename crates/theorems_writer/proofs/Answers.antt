@@ -22,7 +22,6 @@ use Rattle.canonical_form.specs.Same.{SameItem, over, pair, Pairs, without_place
 use Rattle.bit_stores.specs.Written.{bytes_in}
 use Rattle.section.specs.Section.{command_type, command_bytes, private_view, section_of, loop_in}
 use Rattle.section.specs.declared.Section.{Section}
-use Rattle.section.specs.declared.SectionRead.{SectionRead}
 use Rattle.section_writer.proofs.Theorems.{canonical_parts}
 use Rattle.section_writer.proofs.Trips.{frame_one}
 use Rattle.section_writer.specs.Frame.{headed}
@@ -37,6 +36,7 @@ use Rattle.table.specs.Writing.{walk, made, make}
 use Rattle.upid.specs.Cover.{All, none, more}
 use Rattle.theorems_writer.proofs.ItemsWritten.{each_item, one_loop}
 use Rattle.theorems_writer.proofs.WrittenBack.{payload_read_write}
+use Rattle.std.proofs.Common.{Ok}
 
 -- ---- a command's type and payload, of the command without its view's place, its components and the bytes of its view
 command_payload : SpliceCommand → List InsertComponent → List ℕ → List ℕ
@@ -72,7 +72,7 @@ payload_of_lem SpliceCommand.BandwidthReservation p s b e = ap bytes_in (sym e)
 payload_of_lem (SpliceCommand.PrivateCommand own) p s b e = private_of s own b e
 
 -- ---- in a section
-payload_in_lem : (s : List ℕ) (x : Section) → AllBytes s → section_of s ≡ SectionRead.Is x → canonical_section s ≡ true
+payload_in_lem : (s : List ℕ) (x : Section) → AllBytes s → section_of s ≡ Ok x → canonical_section s ≡ true
     → command_bytes s ≡ command_payload (without_place x.command) (take (count_in x.command) (components_of (command_bytes s))) (viewed s (private_view x.command))
 payload_in_lem s x a e c = payload_of_lem x.command (command_bytes s) s (command_bytes s) (payload_read_write s x a e c).1
 
@@ -88,7 +88,7 @@ pub own_header : (h : SpliceInfoHeader) (size command-type : ℕ) → SameHeader
 unfolding headed
 own_header h size command-type = record { version = refl; encrypted = refl; algorithm = refl; adjustment = refl; index = refl; tiers = refl }
 
-pub one_answer : (s r : List ℕ) (x y : Section) → AllBytes s → AllBytes r → section_of s ≡ SectionRead.Is x → section_of r ≡ SectionRead.Is y → canonical_section s ≡ true → canonical_section r ≡ true
+pub one_answer : (s r : List ℕ) (x y : Section) → AllBytes s → AllBytes r → section_of s ≡ Ok x → section_of r ≡ Ok y → canonical_section s ≡ true → canonical_section r ≡ true
     → SameSections s x r y → s ≡ r
 one_answer s r x y a b e f c d same =
     let kinds : command_type s ≡ command_type r =
@@ -110,5 +110,5 @@ own_items : (loop : List ℕ) {xs : List Listed} → All (λ (y : Listed). SameI
 own_items loop none = over
 own_items loop (more h hs) = pair h (own_items loop hs)
 
-pub own_answer : (s : List ℕ) (x : Section) → AllBytes s → section_of s ≡ SectionRead.Is x → canonical_section s ≡ true → SameSections s x s x
+pub own_answer : (s : List ℕ) (x : Section) → AllBytes s → section_of s ≡ Ok x → canonical_section s ≡ true → SameSections s x s x
 own_answer s x a e c = record { headers = record { version = refl; encrypted = refl; algorithm = refl; adjustment = refl; index = refl; tiers = refl }; commands = refl; components = refl; bytes = refl; items = own_items (loop_in s x) (each_item s x a e c (own_item_lem (loop_in s x))) }

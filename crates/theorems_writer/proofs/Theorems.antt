@@ -21,16 +21,13 @@ use Rattle.header.specs.declared.header.SpliceInfoHeader.{SpliceInfoHeader}
 use Rattle.names.specs.Algorithm.{algorithm_number, algorithm_of}
 use Rattle.descriptor_loop.specs.Cover.{joined, run_of}
 use Rattle.descriptor_loop.specs.Items.{step_of, items_of}
-use Rattle.descriptor_loop.specs.declared.Item.{Item}
 use Rattle.loop_round_trips.proofs.Pieces as pieces
 use Rattle.loop_round_trips.proofs.Theorems as loops
 use Rattle.canonical_form.specs.Same.{Given, Pairs, ItemBack, SameSections}
 use Rattle.loop_round_trips.specs.Loops.{given_made, WrittenAgain}
 use Rattle.bit_stores.specs.Written.{answer_of, later_of}
-use Rattle.bit_stores.specs.declared.Written.{Written}
 use Rattle.section.specs.Section.{command_bytes, loop_bytes, section_of, section_length, loop_in}
 use Rattle.section.specs.declared.Section.{Section}
-use Rattle.section.specs.declared.SectionRead.{SectionRead}
 use Rattle.canonical_form.specs.Section.{canonical_section}
 use Rattle.section_writer.specs.Writing.{type_of, section_made}
 use Rattle.table.specs.Bits.{AllBytes}
@@ -48,16 +45,17 @@ use Rattle.theorems_writer.proofs.Writable as writable
 use Rattle.theorems_writer.proofs.WritableInserts as writable_inserts
 use Rattle.theorems_writer.proofs.WritableSections as writable_sections
 use Rattle.theorems_writer.proofs.WrittenBack as written_back
+use Rattle.std.proofs.Common.{Ok, Err, Some}
 
 -- ---- writing
 
 -- "A refused write leaves the target's bytes". By each writer's contract `answer_of` is its answer and `later_of` are the target's later bytes, of what is made, m
 -- (bit_stores/specs/Written.antt).
-pub a_refused_write_changes_no_byte : (m : Made) (target : List ℕ) (n : ℕ) → answer_of m target ≡ Written.Refused n → later_of m target ≡ target
+pub a_refused_write_changes_no_byte : (m : Made) (target : List ℕ) (n : ℕ) → answer_of m target ≡ Err n → later_of m target ≡ target
 a_refused_write_changes_no_byte = targets.kept
 
 -- "an accepted one changes only the bytes of its result, which start at 0, and gives their number."
-pub an_accepted_write_changes_only_its_result : (m : Made) (target : List ℕ) (n : ℕ) → answer_of m target ≡ Written.Wrote n → ChangesOnlyResult m target n
+pub an_accepted_write_changes_only_its_result : (m : Made) (target : List ℕ) (n : ℕ) → answer_of m target ≡ Ok n → ChangesOnlyResult m target n
 an_accepted_write_changes_only_its_result = targets.changed
 
 -- What is made of a command, by what the command reader answers and the widths of the fields: 31 and 32 by their rows, 33 exactly where the command is "a value that no
@@ -113,27 +111,27 @@ canonical_descriptors_are_a_canonical_loop ps c = pieces.cut_canonical c
 
 -- Demand 2: "Writing the reading of a canonical section gives its bytes": its header, its command with the components and bytes that it has, and its loop, as it stands
 -- in the section
-pub a_canonical_section_is_what_is_written_of_its_reading : (s : List ℕ) (x : Section) → AllBytes s → section_of s ≡ SectionRead.Is x → canonical_section s ≡ true
+pub a_canonical_section_is_what_is_written_of_its_reading : (s : List ℕ) (x : Section) → AllBytes s → section_of s ≡ Ok x → canonical_section s ≡ true
     → section_made x.header (command_made x.command (components_of (command_bytes s)) s) (type_of x.command) (loop_in s x) ≡ made s
 a_canonical_section_is_what_is_written_of_its_reading = written_back.section_back
 
 -- and its loop is what is written of its items, each as its own bytes: "each item's descriptor, joined in order as the loop, then the section"
-pub a_canonical_section_is_what_is_written_of_its_items : (s : List ℕ) (x : Section) → AllBytes s → section_of s ≡ SectionRead.Is x → canonical_section s ≡ true
+pub a_canonical_section_is_what_is_written_of_its_items : (s : List ℕ) (x : Section) → AllBytes s → section_of s ≡ Ok x → canonical_section s ≡ true
     → All (WrittenAgain (loop_in s x)) (items_of (loop_in s x)) × (joined (map (run_of (loop_in s x)) (items_of (loop_in s x))) ≡ loop_in s x)
 a_canonical_section_is_what_is_written_of_its_items s x a e c = items_written.loop_written s x e a c
 
 -- What is read can be written: of every item of an accepted section that is read as a descriptor, canonical or not, bytes are made, and these are a canonical descriptor that reads as
 -- it. So 33 is of no value that a reader answers.
-pub what_is_read_can_be_written : (s : List ℕ) (x : Section) → AllBytes s → section_of s ≡ SectionRead.Is x → (offset : ℕ) (d : Descriptor) → (step_of (loop_in s x) offset).item ≡ Item.Is d → Writable (loop_in s x) offset d
+pub what_is_read_can_be_written : (s : List ℕ) (x : Section) → AllBytes s → section_of s ≡ Ok x → (offset : ℕ) (d : Descriptor) → (step_of (loop_in s x) offset).item ≡ Some (Ok d) → Writable (loop_in s x) offset d
 what_is_read_can_be_written s x a e = writable.section_written s x a
 
 -- So of its command with what stands beside it, but for "insert reserved other than 127": bytes are made, a canonical payload that reads as it
-pub what_is_read_of_a_command_can_be_written : (s : List ℕ) (x : Section) → AllBytes s → section_of s ≡ SectionRead.Is x → ((i : SpliceInsert) → x.command ≡ SpliceCommand.SpliceInsert i → i.reserved ≡ 127)
+pub what_is_read_of_a_command_can_be_written : (s : List ℕ) (x : Section) → AllBytes s → section_of s ≡ Ok x → ((i : SpliceInsert) → x.command ≡ SpliceCommand.SpliceInsert i → i.reserved ≡ 127)
     → (p : List ℕ) × (command_made x.command (components_of (command_bytes s)) s ≡ made p) × CommandPayload x.command (components_of (command_bytes s)) s p
 what_is_read_of_a_command_can_be_written = writable_inserts.every_command_written
 
 -- So of a section: its header and its command, around any canonical loop with which it is no longer than a section can be (34), are made a canonical section that reads as these
-pub what_is_read_of_a_section_can_be_written : (s : List ℕ) (x : Section) → AllBytes s → section_of s ≡ SectionRead.Is x → ((i : SpliceInsert) → x.command ≡ SpliceCommand.SpliceInsert i → i.reserved ≡ 127)
+pub what_is_read_of_a_section_can_be_written : (s : List ℕ) (x : Section) → AllBytes s → section_of s ≡ Ok x → ((i : SpliceInsert) → x.command ≡ SpliceCommand.SpliceInsert i → i.reserved ≡ 127)
     → (loop : List ℕ) → AllBytes loop → canonical_loop loop ≡ true → ((p : List ℕ) → command_made x.command (components_of (command_bytes s)) s ≡ made p → section_length (length p) (length loop) ≤ 4096)
     → (b : List ℕ) × (section_made x.header (command_made x.command (components_of (command_bytes s)) s) (type_of x.command) loop ≡ made b)
     × SectionBytes x.header x.command (components_of (command_bytes s)) s loop b
@@ -147,24 +145,24 @@ what_is_written_reads_back = sections_made.section_reads_as
 -- A loop that is the join of what is written of descriptors: these are the items that are read, in order, with equal values and equal bytes in their views. (What
 -- the types say of each: `Handed`.)
 pub what_is_written_of_descriptors_reads_back : (gs : List Given) (bs : List (List ℕ)) → All (λ (g : Given). Handed g.descriptor g.identifier g.beside g.lent) gs → Pairs (λ (g : Given) (b : List ℕ). given_made g ≡ made b) gs bs
-    → (b : List ℕ) (x : Section) → section_of b ≡ SectionRead.Is x → loop_bytes b ≡ joined bs → Pairs (ItemBack (loop_bytes b)) (items_of (loop_bytes b)) gs
+    → (b : List ℕ) (x : Section) → section_of b ≡ Ok x → loop_bytes b ≡ joined bs → Pairs (ItemBack (loop_bytes b)) (items_of (loop_bytes b)) gs
 what_is_written_of_descriptors_reads_back gs bs types m b x e l = items_written.items_read gs bs b types m x e l
 
 -- ---- two canonical sections
 
 -- Demand 3: "Two different canonical sections never have the same reading", over what the readers answer: the readings x and y, the components beside them, the bytes in
 -- their views, and the items. (By the tables' readings: `section_one` in section_writer/proofs/Theorems.antt, `one_of_items` in ItemsWritten.antt.)
-pub canonical_sections_of_equal_answers_are_one : (s r : List ℕ) (x y : Section) → AllBytes s → AllBytes r → section_of s ≡ SectionRead.Is x → section_of r ≡ SectionRead.Is y
+pub canonical_sections_of_equal_answers_are_one : (s r : List ℕ) (x y : Section) → AllBytes s → AllBytes r → section_of s ≡ Ok x → section_of r ≡ Ok y
     → canonical_section s ≡ true → canonical_section r ≡ true → SameSections s x r y → s ≡ r
 canonical_sections_of_equal_answers_are_one = answers.one_answer
 
 -- and each has the answers of itself
-pub a_canonical_section_has_its_own_answers : (s : List ℕ) (x : Section) → AllBytes s → section_of s ≡ SectionRead.Is x → canonical_section s ≡ true → SameSections s x s x
+pub a_canonical_section_has_its_own_answers : (s : List ℕ) (x : Section) → AllBytes s → section_of s ≡ Ok x → canonical_section s ≡ true → SameSections s x s x
 a_canonical_section_has_its_own_answers = answers.own_answer
 
 -- ---- what follows from these
 
 -- The incident, when it is written back: each item of a canonical section is written again, and what is written, read alone, has the same UPID. So each MID
 -- has the same bytes and the same parts, at every level.
-pub writing_back_splits_no_mid : (s : List ℕ) (x : Section) → AllBytes s → section_of s ≡ SectionRead.Is x → canonical_section s ≡ true → All (KeepsUpid (loop_in s x)) (items_of (loop_in s x))
+pub writing_back_splits_no_mid : (s : List ℕ) (x : Section) → AllBytes s → section_of s ≡ Ok x → canonical_section s ≡ true → All (KeepsUpid (loop_in s x)) (items_of (loop_in s x))
 writing_back_splits_no_mid = items_written.keeps_upids

@@ -13,7 +13,6 @@ use Rattle.descriptor.specs.Descriptor.{descriptor_of}
 use Rattle.descriptor.specs.Full.{beside_read, identifier_read}
 use Rattle.descriptor.specs.declared.Descriptor.{Descriptor}
 use Rattle.descriptor.specs.declared.Descriptor.TheVariants.{Avail, Dtmf, Segmentation, Time, Reserved}
-use Rattle.descriptor.specs.declared.DescriptorRead.{DescriptorRead}
 use Rattle.descriptor.specs.declared.full.Beside.{Beside}
 use Rattle.descriptor_measure.specs.Writing.{count_beside, descriptor_made}
 use Rattle.descriptor_round_trips.proofs.Alike.{SameView, alike_made, made_told}
@@ -23,7 +22,6 @@ use Rattle.descriptor_round_trips.specs.Trips.{Handed}
 use Rattle.descriptor_loop.proofs.Steps.{Stands, Clause, long, ended, last, small, entire, clause}
 use Rattle.descriptor_loop.specs.Items.{item_at, read_at, complete_at, step_of, beside_item, reading_of}
 use Rattle.descriptor_loop.specs.Place.{moved_descriptor}
-use Rattle.descriptor_loop.specs.declared.Item.{Item}
 use Rattle.descriptor_loop.specs.declared.Step.{Step}
 use Rattle.loop_round_trips.proofs.Places.{moved_values, moved_count, moved_view}
 use Rattle.section.specs.Section.{loop_in}
@@ -31,20 +29,23 @@ use Rattle.section.specs.declared.Section.{Section}
 use Rattle.theorems_writer.specs.Writable.{Writable}
 use Rattle.theorems_writer.proofs.ItemsWritten.{all_viewed}
 use Rattle.theorems_writer.proofs.WritablePayloads.{written_of}
+use Rattle.std.proofs.Common.{Ok, Err, Some, Option, Result}
+use Rattle.descriptor_loop.specs.declared.ItemRefusal.{ItemRefusal}
+use Rattle.upid.specs.declared.Refusal.{Refusal}
 
 -- something is written of d, which is of its types
 abbrev Makes : List ℕ → List ℕ → Beside → Descriptor → Type 0
 Makes loop id beside d = Handed d id beside loop × ((b : List ℕ) × (descriptor_made d id beside loop ≡ made b))
 
 -- what stands beside a descriptor does not move
-beside_stays : (base : ℕ) (d : Descriptor) (l : List ℕ) → beside_read (DescriptorRead.Is d) l ≡ beside_read (DescriptorRead.Is (moved_descriptor base d)) l
+beside_stays : (base : ℕ) (d : Descriptor) (l : List ℕ) → beside_read (Ok d) l ≡ beside_read (Ok (moved_descriptor base d)) l
 beside_stays base (Avail x) l = refl
 beside_stays base (Dtmf x) l = refl
 beside_stays base (Segmentation x) l = refl
 beside_stays base (Time x) l = refl
 beside_stays base (Reserved tag v) l = refl
 
-is_one : (d e : Descriptor) → Item.Is d ≡ Item.Is e → d ≡ e
+is_one : (d e : Descriptor) → ◌≡◌ {A = Option (Result Descriptor ItemRefusal)} (Some (Ok d)) (Some (Ok e)) → d ≡ e
 is_one d e h = cc
 
 module _ (loop : List ℕ) (a : AllBytes loop) (offset L : ℕ) (st : Stands loop offset L) (four : 4 ≤ L) where
@@ -67,11 +68,11 @@ module _ (loop : List ℕ) (a : AllBytes loop) (offset L : ℕ) (st : Stands loo
   id_length = omega (arith, length-take 4 (drop (offset + 2) loop), length-drop (offset + 2) loop, st.six)
 
   -- of a descriptor in its payload, and so in the loop
-  of_payload_lem : (d : Descriptor) → descriptor_of (get_or loop offset 0) id payload ≡ DescriptorRead.Is d
-      → Makes loop (identifier_read (DescriptorRead.Is d) id) (beside_read (DescriptorRead.Is d) payload) (moved_descriptor (offset + 6) d)
+  of_payload_lem : (d : Descriptor) → descriptor_of (get_or loop offset 0) id payload ≡ Ok d
+      → Makes loop (identifier_read (Ok d) id) (beside_read (Ok d) payload) (moved_descriptor (offset + 6) d)
   of_payload_lem d e =
-      let own : List ℕ = identifier_read (DescriptorRead.Is d) id in
-      let beside : Beside = beside_read (DescriptorRead.Is d) payload in
+      let own : List ℕ = identifier_read (Ok d) id in
+      let beside : Beside = beside_read (Ok d) payload in
       let there : Descriptor = moved_descriptor (offset + 6) d in
       let w = written_of payload id id_length (bytes_take (L - 4) (drop (offset + 6) loop) (bytes_drop (offset + 6) loop a)) (get_or loop offset 0) d e (omega (arith, size, st.right)) in
       let h : Handed d own beside payload = w.0 in
@@ -84,18 +85,18 @@ module _ (loop : List ℕ) (a : AllBytes loop) (offset L : ℕ) (st : Stands loo
         (w.1.0, m),
       )
 
-  of_read : (r : DescriptorRead) → descriptor_of (get_or loop offset 0) id payload ≡ r → (d : Descriptor) → item_at (offset + 6) r ≡ Item.Is d
+  of_read : (r : Result Descriptor Refusal) → descriptor_of (get_or loop offset 0) id payload ≡ r → (d : Descriptor) → item_at (offset + 6) r ≡ Some (Ok d)
       → Makes loop (identifier_read r id) (beside_item (item_at (offset + 6) r) payload_again) d
-  of_read (DescriptorRead.Is e) f d g =
+  of_read (Ok e) f d g =
       let z : moved_descriptor (offset + 6) e ≡ d = is_one (moved_descriptor (offset + 6) e) d g in
-      let b : beside_read (DescriptorRead.Is e) payload ≡ beside_read (DescriptorRead.Is (moved_descriptor (offset + 6) e)) payload_again =
-      ap (beside_read (DescriptorRead.Is e)) again ∙ beside_stays (offset + 6) e payload_again in
-      subst (Makes loop (identifier_read (DescriptorRead.Is e) id) (beside_read (DescriptorRead.Is (moved_descriptor (offset + 6) e)) payload_again)) z
-      (subst (λ (x : Beside). Makes loop (identifier_read (DescriptorRead.Is e) id) x (moved_descriptor (offset + 6) e)) b (of_payload_lem e f))
-  of_read (DescriptorRead.Refused q) f d g = zero_one cc
+      let b : beside_read (Ok e) payload ≡ beside_read (Ok (moved_descriptor (offset + 6) e)) payload_again =
+      ap (beside_read (Ok e)) again ∙ beside_stays (offset + 6) e payload_again in
+      subst (Makes loop (identifier_read (Ok e) id) (beside_read (Ok (moved_descriptor (offset + 6) e)) payload_again)) z
+      (subst (λ (x : Beside). Makes loop (identifier_read (Ok e) id) x (moved_descriptor (offset + 6) e)) b (of_payload_lem e f))
+  of_read (Err q) f d g = zero_one cc
 
 module _ (loop : List ℕ) (a : AllBytes loop) (offset : ℕ) where
-  makes_by : {st : Step} → Clause loop offset st → (d : Descriptor) → st.item ≡ Item.Is d
+  makes_by : {st : Step} → Clause loop offset st → (d : Descriptor) → st.item ≡ Some (Ok d)
       → Makes loop st.identifier (beside_item st.item (take (st.next - (offset + 6)) (drop (offset + 6) loop))) d
   unfolding complete_at read_at
   makes_by (long h) d e = zero_one cc
@@ -104,7 +105,7 @@ module _ (loop : List ℕ) (a : AllBytes loop) (offset : ℕ) where
   makes_by (small L t) d e = zero_one cc
   makes_by (entire L t h) d e = of_read loop a offset L t h _ refl d e
 
-  pub can_be_written : (d : Descriptor) → (step_of loop offset).item ≡ Item.Is d → Writable loop offset d
+  pub can_be_written : (d : Descriptor) → (step_of loop offset).item ≡ Some (Ok d) → Writable loop offset d
   unfolding reading_of
   can_be_written d e =
       let m = makes_by (clause loop offset) d e in
@@ -112,5 +113,5 @@ module _ (loop : List ℕ) (a : AllBytes loop) (offset : ℕ) where
       record { handed = m.0; bytes = m.1.0; writes = m.1.1; form = r.1; back = r.0 }
 
 -- of the loop of a section
-pub section_written : (s : List ℕ) (x : Section) → AllBytes s → (offset : ℕ) (d : Descriptor) → (step_of (loop_in s x) offset).item ≡ Item.Is d → Writable (loop_in s x) offset d
+pub section_written : (s : List ℕ) (x : Section) → AllBytes s → (offset : ℕ) (d : Descriptor) → (step_of (loop_in s x) offset).item ≡ Some (Ok d) → Writable (loop_in s x) offset d
 section_written s x a offset d e = can_be_written (loop_in s x) (all_viewed s x.descriptors a) offset d e

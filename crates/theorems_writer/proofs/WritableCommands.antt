@@ -9,7 +9,6 @@ use lib.ListN.{length}
 use borrow.Author.Tests.{lt-ltb, le-leb}
 use Rattle.command.specs.Command.{private, read, type_of, command_of, count_in}
 use Rattle.command.specs.Insert.{insert}
-use Rattle.command.specs.declared.CommandRead.{CommandRead}
 use Rattle.command.specs.declared.Private.{Private}
 use Rattle.command.specs.declared.SpliceCommand.{SpliceCommand}
 use Rattle.command.specs.declared.components.InsertComponent.{InsertComponent}
@@ -19,7 +18,6 @@ use Rattle.splice_time.specs.declared.SpliceTime.{SpliceTime}
 use Rattle.splice_time.specs.declared.SpliceTime.TheVariants.{Unspecified, At}
 use Rattle.section.specs.Section.{command_type, command_bytes, moved, section_of}
 use Rattle.section.specs.declared.Section.{Section}
-use Rattle.section.specs.declared.SectionRead.{SectionRead}
 use Rattle.table.proofs.Reading.{field_lt}
 use Rattle.table.proofs.Steps.{reads_number, reads_flag, reads_ones, reads_part, takes_remaining}
 use Rattle.table.specs.Bits.{pick, bits_of, field, AllBytes}
@@ -33,6 +31,8 @@ use Rattle.theorems_reader.proofs.Framed.{laid}
 use Rattle.theorems_writer.proofs.InsertsRead.{time_fits}
 use Rattle.theorems_reader.proofs.Whole.{whole_command}
 use Rattle.theorems_reader.proofs.WholeCases.{CommandCase}
+use Rattle.std.proofs.Common.{Ok, Err, Result}
+use Rattle.command.specs.declared.CommandRefusal.{CommandRefusal}
 
 abbrev NoInsert : SpliceCommand → Type 0
 NoInsert SpliceCommand.SpliceNull = Unit {0}
@@ -64,20 +64,20 @@ module _ (s : List ℕ) where
           rw z refl
 
   -- what was read of a command: its numbers are within their fields, and its time is none that says immediate
-  abbrev Keeps : CommandRead → Type 0
-  Keeps (CommandRead.Is SpliceCommand.SpliceNull) = Unit {0}
-  Keeps (CommandRead.Is (SpliceCommand.SpliceInsert i)) = Unit {0}
-  Keeps (CommandRead.Is (SpliceCommand.TimeSignal t)) = (ticks t < 2 ^ 33) × (not_immediate t ≡ true)
-  Keeps (CommandRead.Is SpliceCommand.BandwidthReservation) = Unit {0}
-  Keeps (CommandRead.Is (SpliceCommand.PrivateCommand p)) = p.identifier < 2 ^ 32
-  Keeps CommandRead.UnknownType = Unit {0}
-  Keeps CommandRead.Malformed = Unit {0}
+  abbrev Keeps : Result SpliceCommand CommandRefusal → Type 0
+  Keeps (Ok SpliceCommand.SpliceNull) = Unit {0}
+  Keeps (Ok (SpliceCommand.SpliceInsert i)) = Unit {0}
+  Keeps (Ok (SpliceCommand.TimeSignal t)) = (ticks t < 2 ^ 33) × (not_immediate t ≡ true)
+  Keeps (Ok SpliceCommand.BandwidthReservation) = Unit {0}
+  Keeps (Ok (SpliceCommand.PrivateCommand p)) = p.identifier < 2 ^ 32
+  Keeps (Err CommandRefusal.UnknownType) = Unit {0}
+  Keeps (Err CommandRefusal.Malformed) = Unit {0}
 
-  picked : (b : Bool) (x y : CommandRead) → Keeps x → Keeps y → Keeps (pick b x y)
+  picked : (b : Bool) (x y : Result SpliceCommand CommandRefusal) → Keeps x → Keeps y → Keeps (pick b x y)
   picked true x y h k = h
   picked false x y h k = k
 
-  reading : {X : Type 0} (f : X → SpliceCommand) (r : Answer X) → ((x : X) (m : ℕ) → r ≡ got x m → Keeps (CommandRead.Is (f x))) → Keeps (read f r)
+  reading : {X : Type 0} (f : X → SpliceCommand) (r : Answer X) → ((x : X) (m : ℕ) → r ≡ got x m → Keeps (Ok (f x))) → Keeps (read f r)
   reading f (got x m) h = h x m refl
   reading f (short e a) h = tt
 
@@ -105,7 +105,7 @@ module _ (s : List ℕ) (places : List InsertComponent) where
   nothing_seen : lies_in s no_view ≡ true
   nothing_seen = le-leb 0 (length s) (omega arith)
 
-  written : (c : SpliceCommand) → NoInsert c → Keeps [] (CommandRead.Is c) → CommandCase s (moved 14 c) → (p : List ℕ) × (command_made (moved 14 c) places s ≡ made p)
+  written : (c : SpliceCommand) → NoInsert c → Keeps [] (Ok c) → CommandCase s (moved 14 c) → (p : List ℕ) × (command_made (moved 14 c) places s ≡ made p)
   unfolding moved
   written SpliceCommand.SpliceNull n k w = writable_made SpliceCommand.SpliceNull places s tt nothing_seen refl refl
   written (SpliceCommand.SpliceInsert i) n k w = absurd n
@@ -117,7 +117,7 @@ module _ (s : List ℕ) (places : List InsertComponent) where
       (le-leb _ (length s) (omega (arith, w.whole.there, ap (λ (i : Identifier). i.start) v, ap (λ (i : Identifier). i.len) v)))
       (rw (lt-ltb p.identifier (2 ^ 32) k)) refl
 
-kept_in_lem : (s : List ℕ) (c : SpliceCommand) → NoInsert c → Keeps s (CommandRead.Is c) → Keeps [] (CommandRead.Is c)
+kept_in_lem : (s : List ℕ) (c : SpliceCommand) → NoInsert c → Keeps s (Ok c) → Keeps [] (Ok c)
 kept_in_lem s SpliceCommand.SpliceNull n k = tt
 kept_in_lem s (SpliceCommand.SpliceInsert i) n k = tt
 kept_in_lem s (SpliceCommand.TimeSignal t) n k = k
@@ -139,14 +139,14 @@ counts_none (SpliceCommand.TimeSignal t) n = omega arith
 counts_none SpliceCommand.BandwidthReservation n = omega arith
 counts_none (SpliceCommand.PrivateCommand p) n = omega arith
 
-pub command_written : (s : List ℕ) (x : Section) (places : List InsertComponent) → AllBytes s → length places ≡ 255 → section_of s ≡ SectionRead.Is x → (type_of x.command ≡ 0x05 → ⊥)
+pub command_written : (s : List ℕ) (x : Section) (places : List InsertComponent) → AllBytes s → length places ≡ 255 → section_of s ≡ Ok x → (type_of x.command ≡ 0x05 → ⊥)
     → (p : List ℕ) × (command_made x.command places s ≡ made p) × CommandPayload x.command places s p
 command_written s x places a n e o =
     let i : NoInsert x.command = of_another_type x.command o in
     let l = laid s x e in
     let j : NoInsert (moved 14 l.read) = rw l.command at i in
     let c = no_insert l.read j in
-    let k : Keeps (command_bytes s) (CommandRead.Is l.read) = rw l.from at (all_keep (command_bytes s) (command_type s)) in
+    let k : Keeps (command_bytes s) (Ok l.read) = rw l.from at (all_keep (command_bytes s) (command_type s)) in
     let w : CommandCase s (moved 14 l.read) = rw l.command at (whole_command s x e) in
     let m = written s places l.read c (kept_in_lem (command_bytes s) l.read c k) w in
     let r : command_made x.command places s ≡ made m.0 = ap (λ (d : SpliceCommand). command_made d places s) l.command ∙ m.1 in

@@ -17,14 +17,14 @@ use Rattle.table.proofs.Steps.{reads_in, reads_number, reads_flag, reads_ones, r
 use Rattle.table.specs.Bits.{pick, bits_of, field}
 use Rattle.table.specs.Table.{done, must, uimsbf, list, Answer, got, short, parse}
 use Rattle.descriptor.specs.Segmentation.{delivery_restrictions, unrestricted, component, blank_component, Moded, mode, by_program, count_of, duration, ticks, lasting, written_upid, ListedFront, parts, front, blank_front, sub_segments, sub_segment, sub_bytes, back, agrees, writable_front}
-use Rattle.descriptor.specs.declared.segmentation.DeliveryRestrictionFlags.{DeliveryRestrictionFlags}
 use Rattle.descriptor.specs.declared.segmentation.SegmentationComponent.{SegmentationComponent}
-use Rattle.descriptor.specs.declared.segmentation.SegmentationDuration.{SegmentationDuration}
 use Rattle.descriptor.specs.declared.segmentation.SegmentationMode.{SegmentationMode}
 use Rattle.descriptor.specs.declared.segmentation.SegmentationUpid.{SegmentationUpid}
-use Rattle.descriptor.specs.declared.segmentation.SubSegments.{SubSegments}
 use Rattle.descriptor_round_trips.specs.Making.{fit, component_numbers}
 use Rattle.descriptor.proofs.Heads.{mode_ends, duration_ends, delivery_ends, place}
+use Rattle.std.proofs.Common.{Some, None, Option}
+use Rattle.descriptor.specs.declared.segmentation.DeliveryRestrictions.{DeliveryRestrictions}
+use Rattle.descriptor.specs.declared.segmentation.SubSegment.{SubSegment}
 
 module _ (s : List ℕ) where
   component_kept : (at : ℕ) (y : SegmentationComponent) (m : ℕ) → parse component (bits_of s) at ≡ got y m → (y.component_tag < 2 ^ 8) × (y.pts_offset < 2 ^ 33)
@@ -66,21 +66,21 @@ module _ (s : List ℕ) where
       let c = components_kept (field (bits_of s) at 8) (at + 8) i.inner i.seam i.front in
       rw z (record { flag = refl; count = field_lt s at 8; counted = c.0; numbers = c.1 })
 
-  duration_kept : (b : Bool) (at : ℕ) (y : SegmentationDuration) (m : ℕ) → parse (duration b) (bits_of s) at ≡ got y m → (lasting y ≡ b) × (ticks y < 2 ^ 40)
+  duration_kept : (b : Bool) (at : ℕ) (y : Option ℕ) (m : ℕ) → parse (duration b) (bits_of s) at ≡ got y m → (lasting y ≡ b) × (ticks y < 2 ^ 40)
   unfolding duration
   duration_kept true at y m e =
       let e₁ = (reads_number s at 40 _ _ y m e).1 in
-      let z : y ≡ SegmentationDuration.Ticks (field (bits_of s) at 40) = cc e₁ in
+      let z : y ≡ Some (field (bits_of s) at 40) = cc e₁ in
       rw z (refl, field_lt s at 40)
   duration_kept false at y m e =
-      let z : y ≡ SegmentationDuration.Absent = cc in
+      let z : y ≡ None = cc in
       rw z (refl, omega arith)
 
-  delivery_kept : (b : Bool) (at : ℕ) (y : DeliveryRestrictionFlags) (m : ℕ) → parse (delivery_restrictions b) (bits_of s) at ≡ got y m → unrestricted y ≡ b
+  delivery_kept : (b : Bool) (at : ℕ) (y : Option DeliveryRestrictions) (m : ℕ) → parse (delivery_restrictions b) (bits_of s) at ≡ got y m → unrestricted y ≡ b
   unfolding delivery_restrictions
   delivery_kept true at y m e =
       let e₁ = (reads_ones s at 5 _ y m e).1 in
-      let z : y ≡ DeliveryRestrictionFlags.None = cc e₁ in
+      let z : y ≡ None = cc e₁ in
       rw z
   delivery_kept false at y m e =
       let e₁ = (reads_flag s at _ _ y m e).1 in
@@ -89,11 +89,11 @@ module _ (s : List ℕ) where
       let e₄ = (reads_number s (at + 1 + 1 + 1) 2 _ _ y m e₃).1 in
       go y (sym (ap delivery_in e₄))
     where
-      delivery_in : Answer DeliveryRestrictionFlags → Bool
+      delivery_in : Answer (Option DeliveryRestrictions) → Bool
       delivery_in (got x m) = unrestricted x
       delivery_in (short a b) = true
 
-      go : (y : DeliveryRestrictionFlags) → unrestricted y ≡ false → unrestricted y ≡ false
+      go : (y : Option DeliveryRestrictions) → unrestricted y ≡ false → unrestricted y ≡ false
       go y e = e
 
   upid_ends : (at : ℕ) (u : SegmentationUpid) (m : ℕ) → parse written_upid (bits_of s) at ≡ got u m → m ≡ at + (2 + u.bytes.len) * 8
@@ -161,31 +161,31 @@ module _ (s : List ℕ) where
 
   -- ---- behind the UPID
 
-  pub record SubKept (at : ℕ) (y : SubSegments) : Type 0 where
+  pub record SubKept (at : ℕ) (y : Option SubSegment) : Type 0 where
     pub num : (sub_segment y).sub_segment_num < 2 ^ 8
     pub expected : (sub_segment y).sub_segments_expected < 2 ^ 8
     pub there : at + sub_bytes y * 8 ≤ length s * 8
 
-  sub_kept : (at : ℕ) (y : SubSegments) (m : ℕ) → at ≤ length s * 8 → parse sub_segments (bits_of s) at ≡ got y m → SubKept at y
+  sub_kept : (at : ℕ) (y : Option SubSegment) (m : ℕ) → at ≤ length s * 8 → parse sub_segments (bits_of s) at ≡ got y m → SubKept at y
   unfolding sub_segments
   sub_kept at y m h e = go ((length s * 8 - at) / 8) (eqb ((length s * 8 - at) / 8) 0) (sym (takes_remaining s at _ _) ∙ e)
     where
       go : (n : ℕ) (b : Bool)
-          → parse (pick b (done SubSegments.Absent) (must (eqb n 2) (
+          → parse (pick b (done None) (must (eqb n 2) (
           uimsbf 8 (λ x. (sub_segment x).sub_segment_num) λ sub_segment_num.
           uimsbf 8 (λ x. (sub_segment x).sub_segments_expected) λ sub_segments_expected.
-          done (SubSegments.Is (record { sub_segment_num = sub_segment_num; sub_segments_expected = sub_segments_expected }))))) (bits_of s) at ≡ got y m
+          done (Some (record { sub_segment_num = sub_segment_num; sub_segments_expected = sub_segments_expected }))))) (bits_of s) at ≡ got y m
           → SubKept at y
       go n true f =
-          let z : y ≡ SubSegments.Absent = cc f in
+          let z : y ≡ None = cc f in
           rw z (record { num = omega arith; expected = omega arith; there = omega arith })
       go n false f =
           let e₁ = (reads_number s at 8 _ _ y m f).1 in
           let i = reads_number s (at + 8) 8 _ _ y m e₁ in
-          let z : y ≡ SubSegments.Is (record { sub_segment_num = field (bits_of s) at 8; sub_segments_expected = field (bits_of s) (at + 8) 8 }) = cc i.1 in
+          let z : y ≡ Some (record { sub_segment_num = field (bits_of s) at 8; sub_segments_expected = field (bits_of s) (at + 8) 8 }) = cc i.1 in
           rw z (record { num = field_lt s at 8; expected = field_lt s (at + 8) 8; there = omega (arith, i.0) })
 
-  pub record BackKept (at : ℕ) (t : SegmentationTypeId) (n x : ℕ) (y : SubSegments) : Type 0 where
+  pub record BackKept (at : ℕ) (t : SegmentationTypeId) (n x : ℕ) (y : Option SubSegment) : Type 0 where
     pub writable : writable_segmentation t ≡ true
     pub type_id : segmentation_number t < 2 ^ 8
     pub num : n < 2 ^ 8

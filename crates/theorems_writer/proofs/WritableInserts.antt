@@ -15,10 +15,8 @@ use Rattle.command.specs.Command.{type_of, command_of, array, components_of, com
 use Rattle.command.specs.Writable.{alike, unmixed, writable_insert}
 use Rattle.command.specs.Insert.{WithComponents, time_unless, component, blank, moded, program_time, count, ending, active, active_of, insert}
 use Rattle.splice_time.specs.Break.{break_ticks, break_duration}
-use Rattle.command.specs.declared.CommandRead.{CommandRead}
 use Rattle.command.specs.declared.SpliceCommand.{SpliceCommand}
 use Rattle.command.specs.declared.components.InsertComponent.{InsertComponent}
-use Rattle.splice_time.specs.declared.break_duration.Break.{Break}
 use Rattle.command.specs.declared.insert.InsertDetail.{InsertDetail}
 use Rattle.command.specs.declared.insert.SpliceInsert.{SpliceInsert}
 use Rattle.command.specs.declared.insert.SpliceDetail.{SpliceDetail}
@@ -30,7 +28,6 @@ use Rattle.splice_time.specs.declared.SpliceTime.{SpliceTime}
 use Rattle.splice_time.specs.declared.SpliceTime.TheVariants.{Immediate}
 use Rattle.section.specs.Section.{command_type, command_bytes, moved, section_of}
 use Rattle.section.specs.declared.Section.{Section}
-use Rattle.section.specs.declared.SectionRead.{SectionRead}
 use Rattle.table.proofs.Lists.{and_true}
 use Rattle.table.proofs.Reading.{field_lt}
 use Rattle.table.proofs.Steps.{reads_in, reads_number, reads_flag, reads_ones}
@@ -43,6 +40,9 @@ use Rattle.theorems_reader.proofs.Framed.{laid}
 use Rattle.theorems_writer.proofs.InsertsRead.{unless_fits, insert_has, got_same}
 use Rattle.theorems_writer.proofs.WritableCommands.{not_immediate_lem, command_written}
 use Rattle.theorems_writer.proofs.WrittenBack.{components_are, counted_is}
+use Rattle.std.proofs.Common.{Ok, Err, None, Option, Result}
+use Rattle.command.specs.declared.CommandRefusal.{CommandRefusal}
+use Rattle.splice_time.specs.declared.break_duration.SpliceDuration.{SpliceDuration}
 
 -- ---- booleans
 
@@ -125,13 +125,13 @@ module _ (s : List ℕ) where
       let l = list_kept b n (at + 8) r.inner r.seam r.front in
       rw z (record { time = omega arith; counts = field_lt s at 8; numbers = l.0; like = unmixed_of b r.inner l.1 })
 
-  break_fits : (d : Bool) (at : ℕ) (y : Break) (m : ℕ) → parse (break_duration d) (bits_of s) at ≡ got y m → break_ticks y < 2 ^ 33
+  break_fits : (d : Bool) (at : ℕ) (y : Option SpliceDuration) (m : ℕ) → parse (break_duration d) (bits_of s) at ≡ got y m → break_ticks y < 2 ^ 33
   unfolding break_duration
   break_fits true at y m e =
       let a = (reads_ones s (at + 1) 6 _ y m (reads_flag s at _ _ y m e).1).1 in
       let c = got_same (reads_number s (at + 1 + 6) 33 _ _ y m a).1 in
       rw (← c) (field_lt s (at + 1 + 6) 33)
-  break_fits false at y m e = let z : y ≡ Break.Absent = cc in rw z (omega arith)
+  break_fits false at y m e = let z : y ≡ None = cc in rw z (omega arith)
 
   ending_kept : (out : Bool) (x : WithComponents SpliceMode) (d : Bool) (at : ℕ) (y : WithComponents InsertDetail) (m : ℕ) → ModeKept x → parse (ending out x d) (bits_of s) at ≡ got y m → ActiveKept y
   unfolding ending
@@ -249,20 +249,20 @@ module _ (s : List ℕ) where
 
 module _ (s : List ℕ) where
   -- an insert that was read, as its table reads it
-  abbrev FromTable : CommandRead → Type 0
-  FromTable (CommandRead.Is SpliceCommand.SpliceNull) = Unit {0}
-  FromTable (CommandRead.Is (SpliceCommand.SpliceInsert i)) = (x : WithComponents SpliceInsert) × (m : ℕ) × (parse insert (bits_of s) 0 ≡ got x m) × (x.value ≡ i)
-  FromTable (CommandRead.Is (SpliceCommand.TimeSignal t)) = Unit {0}
-  FromTable (CommandRead.Is SpliceCommand.BandwidthReservation) = Unit {0}
-  FromTable (CommandRead.Is (SpliceCommand.PrivateCommand p)) = Unit {0}
-  FromTable CommandRead.UnknownType = Unit {0}
-  FromTable CommandRead.Malformed = Unit {0}
+  abbrev FromTable : Result SpliceCommand CommandRefusal → Type 0
+  FromTable (Ok SpliceCommand.SpliceNull) = Unit {0}
+  FromTable (Ok (SpliceCommand.SpliceInsert i)) = (x : WithComponents SpliceInsert) × (m : ℕ) × (parse insert (bits_of s) 0 ≡ got x m) × (x.value ≡ i)
+  FromTable (Ok (SpliceCommand.TimeSignal t)) = Unit {0}
+  FromTable (Ok SpliceCommand.BandwidthReservation) = Unit {0}
+  FromTable (Ok (SpliceCommand.PrivateCommand p)) = Unit {0}
+  FromTable (Err CommandRefusal.UnknownType) = Unit {0}
+  FromTable (Err CommandRefusal.Malformed) = Unit {0}
 
-  picked : (b : Bool) (x y : CommandRead) → FromTable x → FromTable y → FromTable (pick b x y)
+  picked : (b : Bool) (x y : Result SpliceCommand CommandRefusal) → FromTable x → FromTable y → FromTable (pick b x y)
   picked true x y h k = h
   picked false x y h k = k
 
-  reading : {X : Type 0} (f : X → SpliceCommand) (r : Answer X) → ((x : X) (m : ℕ) → r ≡ got x m → FromTable (CommandRead.Is (f x))) → FromTable (read f r)
+  reading : {X : Type 0} (f : X → SpliceCommand) (r : Answer X) → ((x : X) (m : ℕ) → r ≡ got x m → FromTable (Ok (f x))) → FromTable (read f r)
   reading f (got x m) h = h x m refl
   reading f (short e a) h = tt
 
@@ -275,7 +275,7 @@ module _ (s : List ℕ) where
       (picked (eqb k 0x07) _ _ (picked (eqb (length s) 0) _ _ tt tt)
       (picked (eqb k 0xff) _ _ (reading SpliceCommand.PrivateCommand (parse private (bits_of s) 0) (λ p m e. tt)) tt))))
 
-module _ (s : List ℕ) (x : Section) (a : AllBytes s) (e : section_of s ≡ SectionRead.Is x) where
+module _ (s : List ℕ) (x : Section) (a : AllBytes s) (e : section_of s ≡ Ok x) where
   abbrev places : List InsertComponent
   places = components_of (command_bytes s)
 
@@ -285,10 +285,10 @@ module _ (s : List ℕ) (x : Section) (a : AllBytes s) (e : section_of s ≡ Sec
   others : (type_of x.command ≡ 0x05 → ⊥) → Rewrites x.command
   others n = command_written s x places a (places_255 (command_bytes s)) e n
 
-  insert_case : (i : SpliceInsert) → x.command ≡ SpliceCommand.SpliceInsert i → i.reserved ≡ 127 → command_of (command_type s) (command_bytes s) ≡ CommandRead.Is (SpliceCommand.SpliceInsert i)
+  insert_case : (i : SpliceInsert) → x.command ≡ SpliceCommand.SpliceInsert i → i.reserved ≡ 127 → command_of (command_type s) (command_bytes s) ≡ Ok (SpliceCommand.SpliceInsert i)
       → Rewrites x.command
   insert_case i c r f =
-      let t : FromTable (command_bytes s) (CommandRead.Is (SpliceCommand.SpliceInsert i)) = rw f at (from_table (command_bytes s) (command_type s)) in
+      let t : FromTable (command_bytes s) (Ok (SpliceCommand.SpliceInsert i)) = rw f at (from_table (command_bytes s) (command_type s)) in
       let k : t.0.value.reserved ≡ 127 = ap (λ (j : SpliceInsert). j.reserved) t.3 ∙ r in
       let m = insert_made_lem (command_bytes s) t.0 t.1 s t.2 k in
       let same : SpliceCommand.SpliceInsert t.0.value ≡ x.command = ap SpliceCommand.SpliceInsert t.3 ∙ sym c in
@@ -302,7 +302,7 @@ module _ (s : List ℕ) (x : Section) (a : AllBytes s) (e : section_of s ≡ Sec
   unfolding moved
   every_command_written h = go (laid s x e).read (laid s x e).from (laid s x e).command
     where
-      go : (c : SpliceCommand) → command_of (command_type s) (command_bytes s) ≡ CommandRead.Is c → x.command ≡ moved 14 c → Rewrites x.command
+      go : (c : SpliceCommand) → command_of (command_type s) (command_bytes s) ≡ Ok c → x.command ≡ moved 14 c → Rewrites x.command
       go SpliceCommand.SpliceNull f m = others (λ k. eqb-false 0 5 refl (ap type_of (sym m) ∙ k))
       go (SpliceCommand.SpliceInsert i) f m = insert_case i m (h i m) f
       go (SpliceCommand.TimeSignal t) f m = others (λ k. eqb-false 6 5 refl (ap type_of (sym m) ∙ k))
@@ -314,10 +314,10 @@ module _ (s : List ℕ) (x : Section) (a : AllBytes s) (e : section_of s ≡ Sec
   unfolding moved
   count_byte = go (laid s x e).read (laid s x e).from (laid s x e).command
     where
-      go : (c : SpliceCommand) → command_of (command_type s) (command_bytes s) ≡ CommandRead.Is c → x.command ≡ moved 14 c → count_in x.command ≤ 255
+      go : (c : SpliceCommand) → command_of (command_type s) (command_bytes s) ≡ Ok c → x.command ≡ moved 14 c → count_in x.command ≤ 255
       go SpliceCommand.SpliceNull f m = rw m (omega arith)
       go (SpliceCommand.SpliceInsert i) f m =
-          let t : FromTable (command_bytes s) (CommandRead.Is (SpliceCommand.SpliceInsert i)) = rw f at (from_table (command_bytes s) (command_type s)) in
+          let t : FromTable (command_bytes s) (Ok (SpliceCommand.SpliceInsert i)) = rw f at (from_table (command_bytes s) (command_type s)) in
           subst (λ (d : SpliceCommand). count_in d ≤ 255) (ap SpliceCommand.SpliceInsert t.3 ∙ sym m) (counts_few (command_bytes s) t.0 t.1 t.2)
       go (SpliceCommand.TimeSignal t) f m = rw m (omega arith)
       go SpliceCommand.BandwidthReservation f m = rw m (omega arith)

@@ -19,8 +19,6 @@ use Rattle.table.specs.Table.{Answer, got, short, parse}
 use Rattle.table.specs.Writing.{Field, walk, seen, within, contents, print, Made, made, refused, make_of, refusal_in}
 use Rattle.table.specs.declared.View.{View}
 use Rattle.upid.specs.Upid.{check_of, eidr_of}
-use Rattle.upid.specs.declared.UpidRead.{UpidRead}
-use Rattle.upid.specs.declared.UpidRead.TheVariants.{Fine, Refused}
 use Rattle.descriptor.proofs.Plains.{reserved_is}
 use Rattle.descriptor.proofs.Structures.{avail_structure, dtmf_structure, time_structure, private_structure}
 use Rattle.descriptor.specs.Descriptor.{◌and_then◌, reported_upid, if_fine, avail_of, dtmf_of, time_of, reserved_of, active_with, active_of, segmentation_of, is_cuei, descriptor_of}
@@ -29,7 +27,6 @@ use Rattle.descriptor.specs.Segmentation.{blank_component, ListedFront, Head, he
 use Rattle.descriptor.specs.Full.{filled, blank_beside, beside_in, beside_of, beside_read, identifier_read}
 use Rattle.descriptor.specs.declared.Descriptor.{Descriptor}
 use Rattle.descriptor.specs.declared.Descriptor.TheVariants.{Avail, Dtmf, Segmentation, Time, Reserved}
-use Rattle.descriptor.specs.declared.DescriptorRead.{DescriptorRead}
 use Rattle.descriptor.specs.declared.plain.DTMFDescriptor.{DTMFDescriptor}
 use Rattle.descriptor.specs.declared.segmentation.SegmentationComponent.{SegmentationComponent}
 use Rattle.descriptor.specs.declared.segmentation.SegmentationDescriptor.{SegmentationDescriptor}
@@ -51,6 +48,8 @@ use Rattle.descriptor.proofs.Heads.{head_ends, place, Placed, front_told}
 use Rattle.theorems_writer.proofs.WritableFields.{FrontKept, front_kept, back_kept}
 use Rattle.theorems_writer.proofs.WritableUpids as upids
 use Rattle.theorems_writer.proofs.WritableUpids.{zeros_all, zeros_bytes, no_bytes}
+use Rattle.std.proofs.Common.{Ok, Err, Result}
+use Rattle.upid.specs.declared.Refusal.{Refusal}
 
 -- ---- what a writer's own rules say of 33
 
@@ -124,23 +123,23 @@ filled_length cs h = length-append cs (replicate (255 - length cs) blank_compone
 
 module _ (s id : List ℕ) (four : length id ≡ 4) (a : AllBytes s) where
   abbrev ReadyOf : Descriptor → Type 0
-  ReadyOf d = Ready d (identifier_read (DescriptorRead.Is d) id) (beside_read (DescriptorRead.Is d) s) s (length s)
+  ReadyOf d = Ready d (identifier_read (Ok d) id) (beside_read (Ok d) s) s (length s)
 
-  abbrev Keeps : DescriptorRead → Type 0
-  Keeps (DescriptorRead.Is d) = ReadyOf d
-  Keeps (DescriptorRead.Refused r) = Unit {0}
+  abbrev Keeps : Result Descriptor Refusal → Type 0
+  Keeps (Ok d) = ReadyOf d
+  Keeps (Err r) = Unit {0}
 
-  picked : (t : Bool) (x y : DescriptorRead) → (t ≡ true → Keeps x) → (t ≡ false → Keeps y) → Keeps (pick t x y)
+  picked : (t : Bool) (x y : Result Descriptor Refusal) → (t ≡ true → Keeps x) → (t ≡ false → Keeps y) → Keeps (pick t x y)
   picked true x y p q = p refl
   picked false x y p q = q refl
 
-  and_then_lem : {X : Type 0} (r : Answer X) (k : X → ℕ → DescriptorRead) → ((x : X) (m : ℕ) → r ≡ got x m → Keeps (k x m)) → Keeps (r and_then k)
+  and_then_lem : {X : Type 0} (r : Answer X) (k : X → ℕ → Result Descriptor Refusal) → ((x : X) (m : ℕ) → r ≡ got x m → Keeps (k x m)) → Keeps (r and_then k)
   and_then_lem (got x m) k f = f x m refl
   and_then_lem (short expected actual) k f = tt
 
-  if_fine_lem : (c : UpidRead) (v : View) (k : SegmentationUpid → DescriptorRead) → ((q : ℕ) → c ≡ Fine q → Keeps (k (reported_upid q v))) → Keeps (if_fine c v k)
-  if_fine_lem (Fine q) v k f = f q refl
-  if_fine_lem (Refused r) v k f = tt
+  if_fine_lem : (c : Result ℕ Refusal) (v : View) (k : SegmentationUpid → Result Descriptor Refusal) → ((q : ℕ) → c ≡ Ok q → Keeps (k (reported_upid q v))) → Keeps (if_fine c v k)
+  if_fine_lem (Ok q) v k f = f q refl
+  if_fine_lem (Err r) v k f = tt
 
   -- ---- nothing stands beside it
 
@@ -239,7 +238,7 @@ module _ (s id : List ℕ) (four : length id ≡ 4) (a : AllBytes s) where
   unfolding writable_segment writable_detail writable_upid written_type blank_beside payload_size payload_made
   cancelled event e n =
       let x : SegmentationDescriptor = record { segmentation_event_id = event; descriptor_detail = DescriptorDetail.Cancel } in
-      let c : check_of 0 (viewed s no_view) ≡ Fine 0 = check_none 0 (viewed s no_view) (no_bytes s) in
+      let c : check_of 0 (viewed s no_view) ≡ Ok 0 = check_none 0 (viewed s no_view) (no_bytes s) in
       record {
         handed = lone_handed (Segmentation x) (replicate 4 0) refl (omega arith);
         sees = omega arith;
@@ -278,7 +277,7 @@ module _ (s id : List ℕ) (four : length id ≡ 4) (a : AllBytes s) where
 
   module _ (h : Head) (m : ℕ) (eh : parse head (bits_of s) 0 ≡ got h m) (off : h.cancel ≡ false) where
     module _ (f : ListedFront) (m₁ : ℕ) (ef : parse front (bits_of s) m ≡ got f m₁) (q : ℕ)
-        (ec : check_of f.front.segmentation_upid.upid_type (viewed s f.front.segmentation_upid.bytes) ≡ Fine q) where
+        (ec : check_of f.front.segmentation_upid.upid_type (viewed s f.front.segmentation_upid.bytes) ≡ Ok q) where
       abbrev w : SegmentationUpid
       w = f.front.segmentation_upid
 
@@ -381,9 +380,9 @@ module _ (s id : List ℕ) (four : length id ≡ 4) (a : AllBytes s) where
       (λ t. in_reserved tag (rw t))
 
   -- so something is written of it
-  pub written_of : (tag : ℕ) (d : Descriptor) → descriptor_of tag id s ≡ DescriptorRead.Is d → length s + 4 ≤ 254
-      → Handed d (identifier_read (DescriptorRead.Is d) id) (beside_read (DescriptorRead.Is d) s) s
-      × ((b : List ℕ) × (descriptor_made d (identifier_read (DescriptorRead.Is d) id) (beside_read (DescriptorRead.Is d) s) s ≡ made b))
+  pub written_of : (tag : ℕ) (d : Descriptor) → descriptor_of tag id s ≡ Ok d → length s + 4 ≤ 254
+      → Handed d (identifier_read (Ok d) id) (beside_read (Ok d) s) s
+      × ((b : List ℕ) × (descriptor_made d (identifier_read (Ok d) id) (beside_read (Ok d) s) s ≡ made b))
   written_of tag d e n =
       let r : ReadyOf d = rw e at (ready tag) in
       (r.handed, is_written d _ _ s (length s) n r)

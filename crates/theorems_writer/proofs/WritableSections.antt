@@ -18,7 +18,6 @@ use Rattle.names.specs.Algorithm.{algorithm_number, algorithm_of, writable_algor
 use Rattle.bit_stores.specs.Written.{bytes_in}
 use Rattle.section.specs.Section.{command_bytes, section_of, section_length}
 use Rattle.section.specs.declared.Section.{Section}
-use Rattle.section.specs.declared.SectionRead.{SectionRead}
 use Rattle.section_writer.proofs.Backs.{own, own_is}
 use Rattle.section_writer.proofs.Heads.{Fitting, fits_within}
 use Rattle.section_writer.proofs.Numbers.{field_behind}
@@ -31,6 +30,7 @@ use Rattle.table.specs.Writing.{Made, made}
 use Rattle.theorems_writer.specs.Making.{SectionBytes}
 use Rattle.theorems_writer.proofs.SectionsMade.{section_reads_as}
 use Rattle.theorems_writer.proofs.WritableInserts.{places_255, every_command_written, count_byte}
+use Rattle.std.proofs.Common.{Ok}
 
 and_both : (a b : Bool) → a ≡ true → b ≡ true → (a && b) ≡ true
 and_both a b e f = rw (e, f)
@@ -41,7 +41,7 @@ pub made_around : (h : SpliceInfoHeader) (p : List ℕ) (command_type : ℕ) (lo
 unfolding section_made bytes_in
 made_around h p command_type loop n f c l = rw (n, f, le-ltb 4096 (section_length (length p) (length loop)) l, c)
 
-module _ (s : List ℕ) (x : Section) (a : AllBytes s) (e : section_of s ≡ SectionRead.Is x) where
+module _ (s : List ℕ) (x : Section) (a : AllBytes s) (e : section_of s ≡ Ok x) where
   abbrev tail : List ℕ
   tail = drop 3 s
 

@@ -11,12 +11,12 @@ use Rattle.table.specs.Bits.{pick, AllBytes}
 use Rattle.table.specs.Lent.{viewed, no_view}
 use Rattle.table.specs.declared.View.{View}
 use Rattle.upid.specs.Upid.{check_of, eidr_of, length_of, reported_of}
-use Rattle.upid.specs.declared.UpidRead.TheVariants.{Fine}
 use Rattle.descriptor.specs.Descriptor.{reported_upid}
 use Rattle.descriptor.specs.declared.segmentation.SegmentationUpid.{SegmentationUpid}
 use Rattle.descriptor_measure.specs.Writing.{all_zero, writable_upid, written_type, written_upid}
 use Rattle.upid.proofs.Reported.{check_none, reports, eidr_is_written}
 use Rattle.theorems_reader.proofs.Runs.{length_viewed}
+use Rattle.std.proofs.Common.{Ok}
 
 pub zeros_all : (n : ℕ) → all_zero (replicate n 0) ≡ true
 unfolding all_zero
@@ -30,7 +30,7 @@ zeros_bytes (suc n) = (omega arith, zeros_bytes n)
 pub no_bytes : (s : List ℕ) → length (viewed s no_view) ≡ 0
 no_bytes s = length_viewed s no_view (omega arith)
 
-module _ (s : List ℕ) (k : ℕ) (v : View) (q : ℕ) (inside : v.at + v.len ≤ length s) (checked : check_of k (viewed s v) ≡ Fine q) where
+module _ (s : List ℕ) (k : ℕ) (v : View) (q : ℕ) (inside : v.at + v.len ≤ length s) (checked : check_of k (viewed s v) ≡ Ok q) where
   abbrev its : List ℕ
   its = viewed s v
 
@@ -39,7 +39,7 @@ module _ (s : List ℕ) (k : ℕ) (v : View) (q : ℕ) (inside : v.at + v.len �
 
   none_then : v.len ≡ 0 → q ≡ 0
   none_then z =
-      let c : check_of k its ≡ Fine 0 = check_none k its (its_length ∙ z) in
+      let c : check_of k its ≡ Ok 0 = check_none k its (its_length ∙ z) in
       cc (c, checked)
 
   some_then : (q ≡ 0 → ⊥) → 1 ≤ v.len
@@ -133,11 +133,11 @@ module _ (s : List ℕ) (k : ℕ) (v : View) (q : ℕ) (inside : v.at + v.len �
       go true b ea eb =
           let z : q ≡ 0 = eqb-true q 0 ea in
           let n : all_zero (eidr_of k its) ≡ true = no_eidr (λ t. omega arith) in
-          let c : check_of 0 (viewed s no_view) ≡ Fine 0 = check_none 0 (viewed s no_view) (no_bytes s) in
+          let c : check_of 0 (viewed s no_view) ≡ Ok 0 = check_none 0 (viewed s no_view) (no_bytes s) in
           record { writable = rw (z, n, c); there = rw z (omega arith); shorter = rw z (omega arith); size = rw z (omega arith) }
       go false true ea eb =
           let z : q ≡ 10 = eqb-true q 10 eb in
-          let t : length its ≡ 12 = (eidr_is_written k its (checked ∙ ap Fine z)).1 in
+          let t : length its ≡ 12 = (eidr_is_written k its (checked ∙ ap Ok z)).1 in
           record { writable = rw z; there = rw z (omega arith); shorter = rw z (omega arith); size = rw z (omega (arith, its_length)) }
       go false false ea eb =
           let n : all_zero (eidr_of k its) ≡ true = no_eidr (eqb-false q 10 eb) in

@@ -12,7 +12,6 @@ use Rattle.canonical_form.specs.Command.{canonical_command}
 use Rattle.command.proofs.InsertLeads.{Counted}
 use Rattle.command.specs.Command.{private, read, empty, command_of, count_in, array, components_of}
 use Rattle.command.specs.Insert.{WithComponents, insert, blank, count, insert_of}
-use Rattle.command.specs.declared.CommandRead.{CommandRead}
 use Rattle.command.specs.declared.SpliceCommand.{SpliceCommand}
 use Rattle.command.specs.declared.components.InsertComponent.{InsertComponent}
 use Rattle.command.specs.declared.insert.SpliceInsert.{SpliceInsert}
@@ -23,7 +22,6 @@ use Rattle.header.specs.declared.header.SpliceInfoHeader.{SpliceInfoHeader}
 use Rattle.table.proofs.Lists.{run_of_run, zero_one, and_true}
 use Rattle.section.specs.Section.{command_length, command_type, command_bytes, moved, section_of}
 use Rattle.section.specs.declared.Section.{Section}
-use Rattle.section.specs.declared.SectionRead.{SectionRead}
 use Rattle.section_writer.proofs.Commands.{Read, read_by}
 use Rattle.section.proofs.Parts.{parts_of_lem}
 use Rattle.section_writer.proofs.Theorems.{canonical_parts, section_read_write}
@@ -37,20 +35,22 @@ use Rattle.table.specs.Lent.{viewed}
 use Rattle.table.specs.Table.{number, part, remaining, Answer, got, parse, canonical_by}
 use Rattle.table.specs.Writing.{walk, Made, made, make}
 use Rattle.theorems_writer.proofs.InsertsRead.{insert_has}
+use Rattle.std.proofs.Common.{Ok, Err, Result}
+use Rattle.command.specs.declared.CommandRefusal.{CommandRefusal}
 
 none : (p : List ℕ) → eqb (length p) 0 ≡ true → p ≡ []
 none [] e = refl
 none (a ∷ p) e = absurd (omega (arith, eqb-true (length (a ∷ p)) 0 e))
 
 -- ---- the reading of a payload
-empty_is : (k c : SpliceCommand) (p : List ℕ) → eqb (length p) 0 ≡ true → empty k p ≡ CommandRead.Is c → c ≡ k
+empty_is : (k c : SpliceCommand) (p : List ℕ) → eqb (length p) 0 ≡ true → empty k p ≡ Ok c → c ≡ k
 empty_is k c p e f =
-    let g : CommandRead.Is k ≡ CommandRead.Is c = rw e at f in
+    let g : ◌≡◌ {A = Result SpliceCommand CommandRefusal} (Ok k) (Ok c) = rw e at f in
     cc
 
-read_is : {X : Type 0} (f : X → SpliceCommand) (r : Answer X) (x : X) (m : ℕ) (c : SpliceCommand) → r ≡ got x m → read f r ≡ CommandRead.Is c → c ≡ f x
+read_is : {X : Type 0} (f : X → SpliceCommand) (r : Answer X) (x : X) (m : ℕ) (c : SpliceCommand) → r ≡ got x m → read f r ≡ Ok c → c ≡ f x
 read_is f r x m c e g =
-    let h : CommandRead.Is (f x) ≡ CommandRead.Is c = rw e at g in
+    let h : Ok (f x) ≡ Ok c = rw e at g in
     cc
 
 -- the components that stand in their array are those that were read
@@ -92,14 +92,14 @@ module _ (command_type' : ℕ) (p : List ℕ) (a : AllBytes p) where
         ap insert_made (ap (counted x.value) (components_are p x _ r.reads) ∙ counted_is x h.0) ∙ insert_command_read_write x p a r.reads r.form h.0 h.1,
       )
 
-  pub command_back : (c : SpliceCommand) → canonical_command command_type' p ≡ true → command_of command_type' p ≡ CommandRead.Is c → Back c
+  pub command_back : (c : SpliceCommand) → canonical_command command_type' p ≡ true → command_of command_type' p ≡ Ok c → Back c
   unfolding canonical_command command_of
   command_back c e f = go (eqb command_type' 0x00) refl (eqb command_type' 0x05) refl (eqb command_type' 0x06) refl (eqb command_type' 0x07) refl (eqb command_type' 0xff) refl e f
     where
       go : (b₀ : Bool) → eqb command_type' 0x00 ≡ b₀ → (b₅ : Bool) → eqb command_type' 0x05 ≡ b₅ → (b₆ : Bool) → eqb command_type' 0x06 ≡ b₆ → (b₇ : Bool) → eqb command_type' 0x07 ≡ b₇ → (b₈ : Bool) → eqb command_type' 0xff ≡ b₈
           → pick b₀ (eqb (length p) 0) (pick b₅ (canonical_by insert p) (pick b₆ (canonical_by splice_time p) (pick b₇ (eqb (length p) 0) (pick b₈ (canonical_by private p) false)))) ≡ true
           → pick b₀ (empty SpliceCommand.SpliceNull p) (pick b₅ (read (λ x. SpliceCommand.SpliceInsert x.value) (parse insert (bits_of p) 0)) (pick b₆ (read SpliceCommand.TimeSignal (parse splice_time (bits_of p) 0))
-          (pick b₇ (empty SpliceCommand.BandwidthReservation p) (pick b₈ (read SpliceCommand.PrivateCommand (parse private (bits_of p) 0)) CommandRead.UnknownType)))) ≡ CommandRead.Is c
+          (pick b₇ (empty SpliceCommand.BandwidthReservation p) (pick b₈ (read SpliceCommand.PrivateCommand (parse private (bits_of p) 0)) (Err CommandRefusal.UnknownType))))) ≡ Ok c
           → Back c
       go true k₀ b₅ k₅ b₆ k₆ b₇ k₇ b₈ k₈ e f = rw (empty_is SpliceCommand.SpliceNull c p e f) (null_back k₀ e)
       go false k₀ true k₅ b₆ k₆ b₇ k₇ b₈ k₈ e f =
@@ -160,7 +160,7 @@ same_made : (h : SpliceInfoHeader) (b : List ℕ) {c d : Made} {k l : ℕ} {p q 
 same_made h b e f g i = rw (e, f, g) i
 
 -- the command's type, and its payload written of the command as the section's reading has it
-pub payload_read_write : (s : List ℕ) (x : Section) → AllBytes s → section_of s ≡ SectionRead.Is x → canonical_section s ≡ true
+pub payload_read_write : (s : List ℕ) (x : Section) → AllBytes s → section_of s ≡ Ok x → canonical_section s ≡ true
     → (type_of x.command ≡ command_type s) × (command_made x.command (components_of (command_bytes s)) s ≡ made (command_bytes s))
 payload_read_write s x a e c =
     let p = parts_of_lem s x e in
@@ -168,7 +168,7 @@ payload_read_write s x a e c =
     let m : command_made (moved 14 p.own) (components_of (command_bytes s)) s ≡ made (command_bytes s) = made_there p.own (components_of (command_bytes s)) s (omega (arith, p.long)) b.1 in
     (ap type_of p.moves ∙ type_stays p.own ∙ b.0, ap (λ (c : SpliceCommand). command_made c (components_of (command_bytes s)) s) p.moves ∙ m)
 
-pub section_back : (s : List ℕ) (x : Section) → AllBytes s → section_of s ≡ SectionRead.Is x → canonical_section s ≡ true
+pub section_back : (s : List ℕ) (x : Section) → AllBytes s → section_of s ≡ Ok x → canonical_section s ≡ true
     → section_made x.header (command_made x.command (components_of (command_bytes s)) s) (type_of x.command) (viewed s x.descriptors) ≡ made s
 section_back s x a e c =
     let b = payload_read_write s x a e c in

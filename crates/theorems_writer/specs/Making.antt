@@ -1,11 +1,10 @@
 -- What a writer makes of a command and of a section, in terms of what the readers answer and of the fields' widths: nothing here says how bytes are put together, and
 -- nothing lists what 33 refuses. 01: refusals 31 to 35 "are checked in order of number"; 33 is "a value that no canonical reading has".
-use Rattle.std.specs.Prelude.{ℕ, ◌≤◌, ◌<◌, true, false, ◌&&◌, List, [], ◌∷◌, ◌≡◌, length, take}
+use Rattle.std.specs.Prelude.{ℕ, ◌≤◌, ◌<◌, true, false, ◌&&◌, List, [], ◌∷◌, ◌≡◌, length, take, Ok}
 use Rattle.canonical_form.specs.Command.{canonical_command}
 use Rattle.command.specs.Command.{count_in, type_of, command_of, components_of}
 use Rattle.command.specs.Insert.{program_time, count}
 use Rattle.splice_time.specs.Break.{break_ticks}
-use Rattle.command.specs.declared.CommandRead.{CommandRead}
 use Rattle.command.specs.declared.SpliceCommand.{SpliceCommand}
 use Rattle.command.specs.declared.components.InsertComponent.{InsertComponent}
 use Rattle.command.specs.declared.insert.SpliceDetail.{SpliceDetail}
@@ -16,7 +15,6 @@ use Rattle.header.specs.declared.header.SpliceInfoHeader.{SpliceInfoHeader}
 use Rattle.names.specs.Algorithm.{algorithm_number}
 use Rattle.section.specs.Section.{private_view, command_type, command_bytes, loop_bytes, section_of, section_length}
 use Rattle.section.specs.declared.Section.{Section}
-use Rattle.section.specs.declared.SectionRead.{SectionRead}
 use Rattle.canonical_form.specs.Section.{canonical_section}
 use Rattle.table.specs.Bits.{AllBytes}
 use Rattle.table.specs.Lent.{lies_in, viewed}
@@ -57,7 +55,7 @@ pub record CommandPayload (c : SpliceCommand) (places : List InsertComponent) (l
   pub bytes : AllBytes p
   pub form : canonical_command (type_of c) p ≡ true
   pub again : SpliceCommand
-  pub reading : command_of (type_of c) p ≡ CommandRead.Is again
+  pub reading : command_of (type_of c) p ≡ Ok again
   pub values : without_place again ≡ without_place c
   pub components : take (count_in again) (components_of p) ≡ take (count_in c) places
   pub view : viewed p (private_view again) ≡ viewed lent (private_view c)
@@ -80,7 +78,7 @@ pub record HasHeader (h : SpliceInfoHeader) (b : List ℕ) : Type 0 where
   pub bytes : AllBytes b
   pub form : canonical_section b ≡ true
   pub reading : Section
-  pub reads : section_of b ≡ SectionRead.Is reading
+  pub reads : section_of b ≡ Ok reading
   pub same : SameHeader reading.header h
 
 -- and with this command and this loop. (The reading's command is this payload's, its view moved: `what_an_accepted_section_says`.)

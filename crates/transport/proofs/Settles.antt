@@ -3,7 +3,6 @@ use Prim.Native.Nat.{ℕ, zero, suc}
 use mathlib.Core.Bool.{Bool, true, false}
 use mathlib.Core.List.{List}
 use mathlib.Core.Path.{◌≡◌, refl}
-use native.Mathlib.Omega.{arith}
 use lib.Dec.{eqb}
 use lib.ListN.{length, drop}
 use Rattle.transport_packet.specs.declared.sections.Next.{Next}
@@ -30,7 +29,7 @@ of_settled under x from = go (goes_on under x) refl (eqb (length from) 0) refl (
     go : (k : Next) → goes_on under x ≡ k → (f : Bool) → eqb (length from) 0 ≡ f → (g : Bool) → eqb (length under) 0 ≡ g → Settled (cut_of under x from).under
     go Nothing e f h g w = rw e (cut_settled (length from) from)
     go Long e f h g w = rw e none
-    go Part e true h true w = let z : Nothing ≡ Part = rw w at e in let o : ◌≡◌ {A = ℕ} 0 1 = cc in absurd (omega arith)
+    go Part e true h true w = let z : Nothing ≡ Part = rw w at e in absurd cc
     go Part e true h false w = rw (e, h) (going (rw w at e))
     go Part e false h g w = rw (e, h) (cut_settled (length from) from)
     go (Complete size) e f h g w = rw e (cut_settled (length from) from)

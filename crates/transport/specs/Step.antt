@@ -1,13 +1,11 @@
 -- Q-9's assembler as a step on lists.
-use Rattle.std.specs.Prelude.{ℕ, ◌+◌, ◌-◌, ◌%◌, Bool, true, List, [], ◌++◌, ◌≡◌, eqb, leb, length, take, drop}
+use Rattle.std.specs.Prelude.{ℕ, ◌+◌, ◌-◌, ◌%◌, Bool, true, List, [], ◌++◌, ◌≡◌, eqb, leb, length, take, drop, Some, None, Ok, Err}
 use Rattle.table.specs.Bits.{pick}
 use Rattle.transport_packet.specs.declared.packet.Refusal.{Refusal}
 use Rattle.transport_packet.specs.declared.packet.Refusal.TheVariants.{SectionLengthTooLarge}
-use Rattle.transport_packet.specs.declared.packet.Head.{Head}
-use Rattle.transport_packet.specs.declared.packet.Head.TheVariants.{Refused, NoPayload, Payload}
 use Rattle.transport_packet.specs.declared.sections.Next.{Next}
 use Rattle.transport_packet.specs.declared.sections.Next.TheVariants.{Nothing, Part}
-use Rattle.transport_packet.specs.Packet.{head_of}
+use Rattle.transport_packet.specs.Packet.{Head, head_of}
 use Rattle.transport_packet.specs.Sections.{next_of, by_next, Cut, long_cut, under_way, and_then, cut}
 
 -- The counter of the last packet with payload, 16 before the first; and the bytes of the section under way, none where none is.
@@ -53,14 +51,14 @@ abbrev pub before : List ℕ → ℕ → ℕ → List ℕ
 before p at first = take (first - at) (drop at p)
 
 unfoldable pub tells_of : State → List ℕ → Head → Told
-tells_of s p (Refused r) = refused r
+tells_of s p (Err r) = refused r
 -- "Packets without payload add nothing and leave the counter"
-tells_of s p NoPayload = took s []
-tells_of s p (Payload counter at first) =
+tells_of s p (Ok None) = took s []
+tells_of s p (Ok (Some x)) =
     -- "a packet with the last payload packet's counter is a repeat, adds nothing and is not tested for 75"
-    pick (eqb counter s.counter) (took s [])
+    pick (eqb x.counter s.counter) (took s [])
     -- "A counter gap drops the section under way"
-    (told counter (cut_of (pick (follows s.counter counter) s.under []) (before p at first) (drop first p)))
+    (told x.counter (cut_of (pick (follows s.counter x.counter) s.under []) (before p x.at x.first) (drop x.first p)))
 
 abbrev pub step_of : ℕ → State → List ℕ → Told
 step_of pid s p = tells_of s p (head_of pid p)

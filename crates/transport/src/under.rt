@@ -6,6 +6,7 @@ use table::numbers::byte;
 use transport_packet::sections::{Next, length_of, next_by};
 
 // Byte i of the section under way: of its first bytes, which the buffer holds, or of those behind them.
+#[tactic(auto, using(crate::proofs::Gathered::byte_behind))]
 fn byte_on(buffer: &[u8], held: usize, packet: &[u8], at: usize, i: usize) -> u8
     requires { (held ≤ length buffer.now) × (i < 4096) × (at < 4096) }
     ensures { result ≡ get_or (take held buffer.now ++ drop at packet.now) i 0 }
@@ -17,6 +18,7 @@ fn byte_on(buffer: &[u8], held: usize, packet: &[u8], at: usize, i: usize) -> u8
 }
 
 // The section under way, if there is one, and the packet's bytes from `at` to `first` behind it.
+#[tactic(auto, using(crate::proofs::Gathered::on_none, crate::proofs::Gathered::on_few, crate::proofs::Gathered::on_held, crate::proofs::Gathered::on_many))]
 pub(crate) fn next_on(buffer: &[u8], held: usize, packet: &[u8], at: usize, first: usize) -> Next
     requires { (held ≤ length buffer.now) × (at ≤ first) × (first ≤ length packet.now) × (first < 4096) }
     ensures { result ≡ goes_on (take held buffer.now) (before packet.now at first) }

@@ -7,15 +7,13 @@ use native.Mathlib.Omega.{arith}
 use lib.Dec.{eqb}
 use lib.ListN.{length, drop, length-drop}
 use borrow.Author.Tests.{eqb-true, eqb-false, ne_eqb}
+use Rattle.std.specs.Prelude.{Some, None, Result, Ok, Err}
 use Rattle.table.specs.Lent.{stored}
+use Rattle.transport_packet.specs.declared.packet.Payload.{Payload}
 use Rattle.transport_packet.specs.declared.packet.Refusal.{Refusal}
 use Rattle.transport_packet.specs.declared.packet.Refusal.TheVariants.{SectionLengthTooLarge}
-use Rattle.transport_packet.specs.declared.packet.Head.{Head}
-use Rattle.transport_packet.specs.declared.packet.Head.TheVariants.{Refused, NoPayload, Payload}
 use Rattle.transport.specs.declared.Assembler.{Assembler}
-use Rattle.transport.specs.declared.Fed.{Fed}
-use Rattle.transport.specs.declared.Fed.TheVariants as fed
-use Rattle.transport_packet.specs.Packet.{head_of}
+use Rattle.transport_packet.specs.Packet.{Head, head_of}
 use Rattle.transport_packet.specs.Sections.{Cut}
 use Rattle.transport.specs.Step.{Told, told, cut_of, before, tells_of, step_of}
 use Rattle.transport.specs.Step.Told.{refused, took}
@@ -32,17 +30,17 @@ use Rattle.transport_laws.proofs.Runs.{step_settles}
 
 -- A packet: refused by both, and neither changes anything; or taken by both, with the same sections and the same state after them.
 pub data Agrees (a : Assembler) (p b : List ℕ) : Type 0 where
-  both_refuse : {r : Refusal} → fed_of a p b ≡ answering (fed.Refused r) b → step_of a.pid (state_of a b) p ≡ refused r → Agrees a p b
+  both_refuse : {r : Refusal} → fed_of a p b ≡ answering (Err r) b → step_of a.pid (state_of a b) p ≡ refused r → Agrees a p b
   both_take :
       {later : Assembler} {b' : List ℕ} {t : Takes}
-      → fed_of a p b ≡ answering (fed.Is later) b' → takes_of 190 later p b' ≡ t → step_of a.pid (state_of a b) p ≡ took (state_of t.assembler t.buffer) t.sections
+      → fed_of a p b ≡ answering (Ok later) b' → takes_of 190 later p b' ≡ t → step_of a.pid (state_of a b) p ≡ took (state_of t.assembler t.buffer) t.sections
       → t.assembler.pid ≡ a.pid → length t.buffer ≡ length b → length p ≡ 188 → Agrees a p b
 
-not_refused : {r : Refusal} {l : Assembler} {b c : List ℕ} → answering (fed.Refused r) b ≡ answering (fed.Is l) c → ⊥
-not_refused {r = r} {l = l} e = let q : fed.Refused r ≡ fed.Is l = ap (λ (y : FedTo). y.answer) e in let z : ◌≡◌ {A = ℕ} 0 1 = cc in omega arith
+not_refused : {r : Refusal} {l : Assembler} {b c : List ℕ} → answering (Err r) b ≡ answering (Ok l) c → ⊥
+not_refused {r = r} {l = l} e = let q : Err r ≡ Ok l = ap (λ (y : FedTo). y.answer) e in cc
 
 module _ (a : Assembler) (p b : List ℕ) (ready : Ready a b) where
-  at_rest_lem : length p ≡ 188 → fed_of a p b ≡ answering (fed.Is (at_rest a)) b → step_of a.pid (state_of a b) p ≡ took (state_of a b) [] → Agrees a p b
+  at_rest_lem : length p ≡ 188 → fed_of a p b ≡ answering (Ok (at_rest a)) b → step_of a.pid (state_of a b) p ≡ took (state_of a b) [] → Agrees a p b
   at_rest_lem n e s = both_take e (rests 189 a p b ready.settled n) s refl refl n
 
   keeps : length p ≡ 188 → (counter first : ℕ) (bytes : List ℕ) (c : Cut) → c.long ≡ false
@@ -63,34 +61,34 @@ module _ (a : Assembler) (p b : List ℕ) (ready : Ready a b) where
       v.room
       complete
 
-  goes_on_lem : (counter at first : ℕ) → head_of a.pid p ≡ Payload counter at first → (counter ≡ a.counter → ⊥) → Agrees a p b
+  goes_on_lem : (x : Payload) → head_of a.pid p ≡ Ok (Some x) → (x.counter ≡ a.counter → ⊥) → Agrees a p b
   unfolding fed_by tells_of
-  goes_on_lem counter at first h n = go (cut_of (under_for a counter b) (before p at first) (drop first p)).long refl
+  goes_on_lem x h n = go (cut_of (under_for a x.counter b) (before p x.at x.first) (drop x.first p)).long refl
     where
-      s : step_of a.pid (state_of a b) p ≡ told counter (cut_of (under_for a counter b) (before p at first) (drop first p))
-      s = rw (h, ne_eqb counter a.counter n)
+      s : step_of a.pid (state_of a b) p ≡ told x.counter (cut_of (under_for a x.counter b) (before p x.at x.first) (drop x.first p))
+      s = rw (h, ne_eqb x.counter a.counter n)
 
-      go : (l : Bool) → (cut_of (under_for a counter b) (before p at first) (drop first p)).long ≡ l → Agrees a p b
-      go true l = both_refuse {r = SectionLengthTooLarge} (fed_goes a p b counter at first h n ∙ rw l) (s ∙ rw l)
+      go : (l : Bool) → (cut_of (under_for a x.counter b) (before p x.at x.first) (drop x.first p)).long ≡ l → Agrees a p b
+      go true l = both_refuse {r = SectionLengthTooLarge} (fed_goes a p b x h n ∙ rw l) (s ∙ rw l)
       go false l =
-          let w : Placed p counter at first = payload_placed a.pid p counter at first h in
-          keeps w.complete counter first (kept (under_for a counter b) (before p at first) (drop first p)) (cut_of (under_for a counter b) (before p at first) (drop first p)) l
-          (fed_goes a p b counter at first h n ∙ rw l)
+          let w : Placed p x.counter x.at x.first = payload_placed a.pid p x h in
+          keeps w.complete x.counter x.first (kept (under_for a x.counter b) (before p x.at x.first) (drop x.first p)) (cut_of (under_for a x.counter b) (before p x.at x.first) (drop x.first p)) l
+          (fed_goes a p b x h n ∙ rw l)
           s
-          (kept_taken_lem a counter first (under_for a counter b) (before p at first) p b (omega (arith, length-drop first p, w.complete)) ready.room l)
+          (kept_taken_lem a x.counter x.first (under_for a x.counter b) (before p x.at x.first) p b (omega (arith, length-drop x.first p, w.complete)) ready.room l)
 
   pub agrees : Agrees a p b
   unfolding tells_of
   agrees = by_head (head_of a.pid p) refl
     where
       by_head : (k : Head) → head_of a.pid p ≡ k → Agrees a p b
-      by_head (Refused r) h = both_refuse (fed_refused a p b r h) (rw h)
-      by_head NoPayload h = at_rest_lem (none_placed a.pid p h) (fed_none a p b h) (rw h)
-      by_head (Payload counter at first) h = by_repeat (eqb counter a.counter) refl
+      by_head (Err r) h = both_refuse (fed_refused a p b r h) (rw h)
+      by_head (Ok None) h = at_rest_lem (none_placed a.pid p h) (fed_none a p b h) (rw h)
+      by_head (Ok (Some x)) h = by_repeat (eqb x.counter a.counter) refl
         where
-          by_repeat : (f : Bool) → eqb counter a.counter ≡ f → Agrees a p b
-          by_repeat true f = at_rest_lem (payload_placed a.pid p counter at first h).complete (fed_repeat a p b counter at first h (eqb-true _ _ f)) (rw (h, f))
-          by_repeat false f = goes_on_lem counter at first h (eqb-false _ _ f)
+          by_repeat : (f : Bool) → eqb x.counter a.counter ≡ f → Agrees a p b
+          by_repeat true f = at_rest_lem (payload_placed a.pid p x h).complete (fed_repeat a p b x h (eqb-true _ _ f)) (rw (h, f))
+          by_repeat false f = goes_on_lem x h (eqb-false _ _ f)
 
   -- `feed`, and `take` until it is done, are the step
   pub record IsStep (x : Told) (a' : Assembler) (b' : List ℕ) : Type 0 where
@@ -104,14 +102,14 @@ module _ (a : Assembler) (p b : List ℕ) (ready : Ready a b) where
     where
       go : (x : Told) (a' : Assembler) (b' : List ℕ) → Agrees a p b → CodeStep a p b x a' b' → IsStep x a' b'
       go x a' b' (both_refuse {r = r} e s) (refuses {b' = d} {r = k} f) =
-          let q : fed.Refused k ≡ fed.Refused r = ap (λ (y : FedTo). y.answer) (sym f ∙ e) in
+          let q : Err k ≡ Err r = ap (λ (y : FedTo). y.answer) (sym f ∙ e) in
           let g : k ≡ r = cc in
           let h : d ≡ b = ap (λ (y : FedTo). y.buffer) (sym f ∙ e) in
           record { told = ap refused g ∙ sym s; state = rw h; pid = refl; still = rw h ready }
       go x a' b' (both_refuse e s) (takes f y) = absurd (not_refused (sym e ∙ f))
       go x a' b' (both_take e t s q r n) (refuses f) = absurd (not_refused (sym f ∙ e))
       go x a' b' (both_take {later = l} {b' = d} {t = u} e t s q r n) (takes {later = k} {b' = c} {t = w} f y) =
-          let z : fed.Is l ≡ fed.Is k = ap (λ (y : FedTo). y.answer) (sym e ∙ f) in
+          let z : Ok l ≡ Ok k = ap (λ (y : FedTo). y.answer) (sym e ∙ f) in
           let g : l ≡ k = cc in
           let h : d ≡ c = ap (λ (y : FedTo). y.buffer) (sym e ∙ f) in
           let o : Ends l p d w = rw (g, h) y in
@@ -138,15 +136,15 @@ code_given (p ∷ ps) ss a b ready (packet {a' = a'} {b' = b'} {x = x} {ss = mor
 pub code_runs : (a : Assembler) (p b : List ℕ) → (x : Told) × (a' : Assembler) × (b' : List ℕ) × CodeStep a p b x a' b'
 code_runs a p b = go (fed_of a p b).answer refl
   where
-    go : (k : Fed) → (fed_of a p b).answer ≡ k → (x : Told) × (a' : Assembler) × (b' : List ℕ) × CodeStep a p b x a' b'
-    go (fed.Refused r) e = (refused r, a, (fed_of a p b).buffer, refuses (ap (λ (y : Fed). answering y (fed_of a p b).buffer) e))
-    go (fed.Is later) e =
+    go : (k : Result Assembler Refusal) → (fed_of a p b).answer ≡ k → (x : Told) × (a' : Assembler) × (b' : List ℕ) × CodeStep a p b x a' b'
+    go (Err r) e = (refused r, a, (fed_of a p b).buffer, refuses (ap (λ (y : Result Assembler Refusal). answering y (fed_of a p b).buffer) e))
+    go (Ok later) e =
         let d = (fed_of a p b).buffer in
         let t = takes_of (suc (suc (length (drop later.at p)))) later p d in (
           took (state_of t.assembler t.buffer) t.sections,
           t.assembler,
           t.buffer,
-          takes (ap (λ (y : Fed). answering y d) e) (take_ends (suc (length (drop later.at p))) later p d (omega arith)),
+          takes (ap (λ (y : Result Assembler Refusal). answering y d) e) (take_ends (suc (length (drop later.at p))) later p d (omega arith)),
         )
 
 pub code_gives : (ps : List (List ℕ)) (a : Assembler) (b : List ℕ) → (ss : List (List ℕ)) × CodeGives a b ps ss

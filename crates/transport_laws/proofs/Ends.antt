@@ -5,11 +5,11 @@ use mathlib.Core.Path.{◌≡◌, refl, ap, sym, ◌∙◌}
 use native.Mathlib.Omega.{arith}
 use lib.ListN.{length, take, drop, get_or, length-drop}
 use lib.Seq.{drop-drop}
+use Rattle.std.specs.Prelude.{Some, None}
 use Rattle.table.specs.Lent.{stored}
 use Rattle.transport_packet.specs.declared.sections.Next.{Next}
 use Rattle.transport_packet.specs.declared.sections.Next.TheVariants.{Nothing, Long, Part, Complete}
 use Rattle.transport.specs.declared.Assembler.{Assembler}
-use Rattle.transport.specs.declared.Taken.TheVariants.{Section, Done}
 use Rattle.transport_packet.specs.Sections.{section_length, next_by, next_of}
 use Rattle.transport.specs.Assembler.{at_rest, holding, TakenTo, giving, taken_from, taken_of}
 use Rattle.transport_laws.specs.Takes.{Takes, takes_of, Ends}
@@ -19,10 +19,10 @@ use Rattle.transport.proofs.Answers.{from_nothing, from_long, from_part, from_co
 use Rattle.transport_laws.proofs.Takes.{takes_done, takes_gives}
 
 module _ (n : ℕ) (a later : Assembler) (p b b' : List ℕ) where
-  is_done : taken_of a p b ≡ giving (Done later) b' → Ends a p b (takes_of (suc n) a p b)
+  is_done : taken_of a p b ≡ giving (None, later) b' → Ends a p b (takes_of (suc n) a p b)
   is_done e = rw (takes_done n a p b later b' e) (done e)
 
-  goes : (size : ℕ) → taken_of a p b ≡ giving (Section size later) b' → Ends later p b' (takes_of n later p b') → Ends a p b (takes_of (suc n) a p b)
+  goes : (size : ℕ) → taken_of a p b ≡ giving (Some size, later) b' → Ends later p b' (takes_of n later p b') → Ends a p b (takes_of (suc n) a p b)
   goes size e more = rw (takes_gives n a p b size later b' e) (gives e more)
 
 -- what is left of the packet is shorter after a section of it
@@ -68,21 +68,20 @@ take_ends n a p b f = go (next_of (take a.held b)) refl
 
 -- ---- what it gives is one thing
 
-not_done : {x y : Assembler} {n : ℕ} {b c : List ℕ} → giving (Done x) b ≡ giving (Section n y) c → ⊥
-not_done {x = x} {y = y} {n = n} e = let q : Done x ≡ Section n y = ap (λ (k : TakenTo). k.answer) e in let z : ◌≡◌ {A = ℕ} 0 1 = cc in omega arith
+not_done : {x y : Assembler} {n : ℕ} {b c : List ℕ} → giving (None, x) b ≡ giving (Some n, y) c → ⊥
+not_done {x = x} {y = y} {n = n} e = let q : None ≡ Some n = ap (λ (k : TakenTo). k.answer.0) e in cc
 
 pub ends_one : {a : Assembler} {p b : List ℕ} {t u : Takes} → Ends a p b t → Ends a p b u → t ≡ u
 ends_one (done {later = l} {b' = c} e) (done {later = k} {b' = d} f) =
-    let q : Done l ≡ Done k = ap (λ (k : TakenTo). k.answer) (sym e ∙ f) in
-    let x : l ≡ k = cc in
+    let x : l ≡ k = ap (λ (k : TakenTo). k.answer.1) (sym e ∙ f) in
     let y : c ≡ d = ap (λ (k : TakenTo). k.buffer) (sym e ∙ f) in
     rw (x, y)
 ends_one (done e) (gives f y) = absurd (not_done (sym e ∙ f))
 ends_one (gives e x) (done f) = absurd (not_done (sym f ∙ e))
 ends_one {p = p} (gives {later = l} {b' = c} {size = n} {t = t} e x) (gives {later = k} {b' = d} {size = m} {t = u} f y) =
-    let q : Section n l ≡ Section m k = ap (λ (k : TakenTo). k.answer) (sym e ∙ f) in
+    let q : Some n ≡ Some m = ap (λ (k : TakenTo). k.answer.0) (sym e ∙ f) in
     let g : n ≡ m = cc in
-    let h : l ≡ k = cc in
+    let h : l ≡ k = ap (λ (k : TakenTo). k.answer.1) (sym e ∙ f) in
     let i : c ≡ d = ap (λ (k : TakenTo). k.buffer) (sym e ∙ f) in
     let z : Ends l p c u = rw (h, i) y in
     rw (g, i, ends_one x z)

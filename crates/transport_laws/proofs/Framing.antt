@@ -11,9 +11,9 @@ use native.Mathlib.Omega.{arith}
 use lib.Dec.{eqb, ltb}
 use lib.ListN.{length, take, drop, get_or}
 use borrow.Author.Tests.{le-ltb, eq-eqb}
+use Rattle.std.specs.Prelude.{Some}
 use Rattle.section.specs.Section.{command_length, loop_length, first, conditions, section_of, number_of}
 use Rattle.section.specs.declared.Section.{Section}
-use Rattle.section.specs.declared.SectionRead.{SectionRead}
 use Rattle.section.proofs.Acceptance.{refusals_in_order}
 use Rattle.canonical_form.specs.Section.{canonical_frame, canonical_section}
 use Rattle.section.specs.Section as of_section
@@ -26,10 +26,10 @@ use Rattle.table.proofs.Fields.{field_in, field_byte}
 use Rattle.table.proofs.Structure.{bytes_take}
 use Rattle.transport_packet.specs.Sections.{section_length, Right}
 use Rattle.transport.specs.declared.Assembler.{Assembler}
-use Rattle.transport.specs.declared.Taken.TheVariants.{Section as Gave}
 use Rattle.transport.specs.Assembler.{taken_of}
 use Rattle.transport_laws.specs.Concatenation.{Laid}
 use Rattle.transport_laws.proofs.Right.{taken_right}
+use Rattle.std.proofs.Common.{Ok}
 
 -- the two definitions of section_length, by bytes and by bits, are one
 pub same_length_bits : (s : List ℕ) → AllBytes s → 3 ≤ length s → field (bits_of s) 12 12 ≡ section_length s
@@ -62,13 +62,13 @@ pub record Framed (s : List ℕ) : Type 0 where
   pub low : field (bits_of s) 12 12 ≡ length s - 3
   pub neither : (k : ℕ) → 0 < k → k < 3 → number_of (section_of s) ≡ k → ⊥
 
-pub taken_framed : (a later : Assembler) (p b : List ℕ) (size : ℕ) → 4096 ≤ length b → AllBytes (taken_of a p b).buffer → (taken_of a p b).answer ≡ Gave size later
+pub taken_framed : (a later : Assembler) (p b : List ℕ) (size : ℕ) → 4096 ≤ length b → AllBytes (taken_of a p b).buffer → (taken_of a p b).answer ≡ (Some size, later)
     → Framed (take size (taken_of a p b).buffer)
 taken_framed a later p b size room bytes e =
     let r : Right (take size (taken_of a p b).buffer) = taken_right a later p b size room e in
     record { low = length_bits_right _ (bytes_take size (taken_of a p b).buffer bytes) r; neither = neither_short_nor_long _ r }
 
-pub canonical_laid : (s : List ℕ) (x : Section) → AllBytes s → section_of s ≡ SectionRead.Is x → canonical_section s ≡ true → Laid s
+pub canonical_laid : (s : List ℕ) (x : Section) → AllBytes s → section_of s ≡ Ok x → canonical_section s ≡ true → Laid s
 canonical_laid s x a e c =
     let p = parts_of_lem s x e in
     let l : field (bits_of s) 12 12 ≡ length s - 3 = (framed s (canonical_parts s c).around).low in

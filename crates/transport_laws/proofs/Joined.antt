@@ -21,7 +21,7 @@ abbrev pub finish : List ℕ → List ℕ → List (List ℕ)
 finish under rest = by_next (goes_on under rest) [] [] [] (λ size. take size (under ++ rest) ∷ [])
 
 never : true ≡ false → ⊥
-never e = let z : ◌≡◌ {A = ℕ} 0 1 = cc in omega arith
+never e = cc
 
 -- ---- more bytes behind
 
@@ -44,7 +44,7 @@ module _ (under x rest : List ℕ) where
 
   more_complete : (size : ℕ) → goes_on under x ≡ Complete size → goes_on under (x ++ rest) ≡ Complete size
   more_complete size e =
-      let b = begun (Complete size) e (λ n. let z : ◌≡◌ {A = ℕ} 0 1 = cc in omega arith) in
+      let b = begun (Complete size) e (λ n. cc) in
       rw (b.0, ← append_assoc under x rest) (complete_longer (under ++ x) rest size b.1)
 
   pub finish_nothing : goes_on under x ≡ Nothing → finish under (x ++ rest) ≡ []
@@ -52,12 +52,12 @@ module _ (under x rest : List ℕ) where
 
   pub finish_complete : (size : ℕ) → goes_on under x ≡ Complete size → finish under (x ++ rest) ≡ take size (under ++ x) ∷ []
   finish_complete size e =
-      let b = begun (Complete size) e (λ n. let z : ◌≡◌ {A = ℕ} 0 1 = cc in omega arith) in
+      let b = begun (Complete size) e (λ n. cc) in
       rw (more_complete size e, ← append_assoc under x rest, take-append-le size (under ++ x) rest (complete_shown (under ++ x) size b.1).fits)
 
   pub finish_part : goes_on under x ≡ Part → finish (under ++ x) rest ≡ finish under (x ++ rest)
   finish_part e =
-      let b = begun Part e (λ n. let z : ◌≡◌ {A = ℕ} 0 1 = cc in omega arith) in
+      let b = begun Part e (λ n. cc) in
       let h : length under ≡ 0 → ⊥ = eqb-false _ _ b.0 in
       rw (ne_eqb (length (under ++ x)) 0 (λ z. omega (arith, length-append under x)), b.0, append_assoc under x rest)
 

@@ -7,15 +7,13 @@ use native.Mathlib.Omega.{arith}
 use lib.Dec.{eqb}
 use lib.ListN.{length, take, drop, get_or, length-take}
 use lib.Seq.{length-take-le, take-take}
+use Rattle.std.specs.Prelude.{Some, None, Ok, Err, Option}
 use Rattle.table.specs.Bits.{pick}
 use Rattle.table.specs.Lent.{stored}
-use Rattle.transport_packet.specs.declared.packet.Head.{Head}
-use Rattle.transport_packet.specs.declared.packet.Head.TheVariants.{Refused, NoPayload, Payload}
 use Rattle.transport_packet.specs.declared.sections.Next.{Next}
 use Rattle.transport_packet.specs.declared.sections.Next.TheVariants.{Nothing, Long, Part, Complete}
 use Rattle.transport.specs.declared.Assembler.{Assembler}
-use Rattle.transport.specs.declared.Taken.TheVariants.{Section, Done}
-use Rattle.transport_packet.specs.Packet.{head_of}
+use Rattle.transport_packet.specs.Packet.{Head, head_of}
 use Rattle.transport_packet.specs.Sections.{section_length, next_of, Cut, cut_from, Right, Each}
 use Rattle.transport.specs.Step.{State, told, follows, goes_on, cut_of, before, tells_of, step_of}
 use Rattle.transport.specs.Step.Told.{took}
@@ -69,24 +67,24 @@ unfolding tells_of
 step_right pid s p = go (head_of pid p) refl
   where
     go : (k : Head) → head_of pid p ≡ k → Each Right (sections_in (step_of pid s p))
-    go (Refused r) h = rw h tt
-    go NoPayload h = rw h tt
-    go (Payload counter at first) h = rw h (by_repeat (eqb counter s.counter) refl)
+    go (Err r) h = rw h tt
+    go (Ok None) h = rw h tt
+    go (Ok (Some x)) h = rw h (by_repeat (eqb x.counter s.counter) refl)
       where
-        by_repeat : (f : Bool) → eqb counter s.counter ≡ f
-            → Each Right (sections_in (pick (eqb counter s.counter) (took s []) (told counter (cut_of (pick (follows s.counter counter) s.under []) (before p at first) (drop first p)))))
+        by_repeat : (f : Bool) → eqb x.counter s.counter ≡ f
+            → Each Right (sections_in (pick (eqb x.counter s.counter) (took s []) (told x.counter (cut_of (pick (follows s.counter x.counter) s.under []) (before p x.at x.first) (drop x.first p)))))
         by_repeat true f = rw f tt
-        by_repeat false f = rw f (told_right counter (cut_of (pick (follows s.counter counter) s.under []) (before p at first) (drop first p)) (of_right (pick (follows s.counter counter) s.under []) (before p at first) (drop first p)))
+        by_repeat false f = rw f (told_right x.counter (cut_of (pick (follows s.counter x.counter) s.under []) (before p x.at x.first) (drop x.first p)) (of_right (pick (follows s.counter x.counter) s.under []) (before p x.at x.first) (drop x.first p)))
 
 -- and so has every section that `take` hands out, from any state
-pub taken_right : (a later : Assembler) (p b : List ℕ) (size : ℕ) → 4096 ≤ length b → (taken_of a p b).answer ≡ Section size later → Right (take size (taken_of a p b).buffer)
+pub taken_right : (a later : Assembler) (p b : List ℕ) (size : ℕ) → 4096 ≤ length b → (taken_of a p b).answer ≡ (Some size, later) → Right (take size (taken_of a p b).buffer)
 taken_right a later p b size r e = go (next_of (take a.held b)) refl
   where
-    other : (n : ℕ) (x : Assembler) (b' : List ℕ) → taken_of a p b ≡ giving (Section n x) b' → Right (take n b') → Right (take size (taken_of a p b).buffer)
-    other n x b' q k = let w : Section n x ≡ Section size later = sym (ap (λ (y : TakenTo). y.answer) q) ∙ e in let z : n ≡ size = cc in rw (q, ← z) k
+    other : (n : ℕ) (x : Assembler) (b' : List ℕ) → taken_of a p b ≡ giving (Some n, x) b' → Right (take n b') → Right (take size (taken_of a p b).buffer)
+    other n x b' q k = let w : Some n ≡ Some size = sym (ap (λ (y : TakenTo). y.answer.0) q) ∙ ap (λ (y : Option ℕ × Assembler). y.0) e in let z : n ≡ size = cc in rw (q, ← z) k
 
-    ended : (x : Assembler) (b' : List ℕ) → taken_of a p b ≡ giving (Done x) b' → Right (take size (taken_of a p b).buffer)
-    ended x b' q = let w : Done x ≡ Section size later = sym (ap (λ (y : TakenTo). y.answer) q) ∙ e in let z : ◌≡◌ {A = ℕ} 0 1 = cc in absurd (omega arith)
+    ended : (x : Assembler) (b' : List ℕ) → taken_of a p b ≡ giving (None, x) b' → Right (take size (taken_of a p b).buffer)
+    ended x b' q = let w : None ≡ Some size = sym (ap (λ (y : TakenTo). y.answer.0) q) ∙ ap (λ (y : Option ℕ × Assembler). y.0) e in absurd cc
 
     from : taken_of a p b ≡ taken_from a (drop a.at p) b → (k : Next) → next_of (drop a.at p) ≡ k → Right (take size (taken_of a p b).buffer)
     from q Nothing f = ended (at_rest a) b (q ∙ from_nothing a (drop a.at p) b f)

@@ -3,16 +3,14 @@ use Prim.Native.Nat.{ℕ}
 use mathlib.Core.Bool.{Bool, true, false}
 use mathlib.Core.List.{List, [], ◌∷◌, ◌++◌, append_assoc}
 use mathlib.Core.Path.{◌≡◌, refl, ap, sym, ◌∙◌}
-use native.Mathlib.Omega.{arith}
 use lib.Dec.{eqb}
 use lib.ListN.{length, drop}
 use borrow.Author.Tests.{eqb-true, eqb-false}
+use Rattle.std.specs.Prelude.{Some, None, Ok, Err}
 use Rattle.table.specs.Bits.{pick}
 use Rattle.transport_packet.specs.declared.packet.Refusal.{Refusal}
 use Rattle.transport_packet.specs.declared.packet.Refusal.TheVariants.{SectionLengthTooLarge}
-use Rattle.transport_packet.specs.declared.packet.Head.{Head}
-use Rattle.transport_packet.specs.declared.packet.Head.TheVariants.{Refused, NoPayload, Payload}
-use Rattle.transport_packet.specs.Packet.{head_of}
+use Rattle.transport_packet.specs.Packet.{Head, head_of}
 use Rattle.transport_packet.specs.Sections.{Cut}
 use Rattle.transport.specs.Step.{State, fresh, Told, follows, cut_of, before, tells_of, step_of, Settled}
 use Rattle.transport.specs.Step.Told.{refused, took}
@@ -29,7 +27,7 @@ unfoldable pub what_is_left : List ℕ → List Load → List (List ℕ)
 what_is_left under xs = finish under (runs_of xs).lead ++ sections_of (runs_of xs).runs
 
 never_refused : (r : Refusal) (s : State) (xs : List (List ℕ)) → refused r ≡ took s xs → ⊥
-never_refused r s xs e = let z : ◌≡◌ {A = ℕ} 0 1 = cc in omega arith
+never_refused r s xs e = cc
 
 -- a payload in front
 pub load_left : (under : List ℕ) (x : Load) (xs : List Load) → (cut_of under x.lead x.from).long ≡ false
@@ -109,17 +107,17 @@ module _ (pid : ℕ) (p : List ℕ) (s later : State) (sections : List (List ℕ
   takes e = by_head (head_of pid p) refl
     where
       by_head : (h : Head) → head_of pid p ≡ h → Takes
-      by_head (Refused r) h = absurd (never_refused r later sections (rw h at e))
-      by_head NoPayload h = let q : took s [] ≡ took later sections = rw h at e in stays (cc) (cc) (λ xs. rw h)
-      by_head (Payload counter at first) h = by_repeat (eqb counter s.counter) refl (cut_of (pick (follows s.counter counter) s.under []) (before p at first) (drop first p)).long refl
+      by_head (Err r) h = absurd (never_refused r later sections (rw h at e))
+      by_head (Ok None) h = let q : took s [] ≡ took later sections = rw h at e in stays (cc) (cc) (λ xs. rw h)
+      by_head (Ok (Some x)) h = by_repeat (eqb x.counter s.counter) refl (cut_of (pick (follows s.counter x.counter) s.under []) (before p x.at x.first) (drop x.first p)).long refl
         where
-          by_repeat : (f : Bool) → eqb counter s.counter ≡ f → (l : Bool) → (cut_of (pick (follows s.counter counter) s.under []) (before p at first) (drop first p)).long ≡ l → Takes
+          by_repeat : (f : Bool) → eqb x.counter s.counter ≡ f → (l : Bool) → (cut_of (pick (follows s.counter x.counter) s.under []) (before p x.at x.first) (drop x.first p)).long ≡ l → Takes
           by_repeat true f l g = let q : took s [] ≡ took later sections = rw (h, f) at e in stays (cc) (cc) (λ xs. rw (h, f))
           by_repeat false f true g = absurd (never_refused SectionLengthTooLarge later sections (rw (h, f, g) at e))
           by_repeat false f false g =
-              let c = cut_of (pick (follows s.counter counter) s.under []) (before p at first) (drop first p) in
-              let q : took (record { counter = counter; under = c.under }) c.sections ≡ took later sections = rw (h, f, g) at e in
-              adds (record { counter = counter; lead = before p at first; from = drop first p }) c refl g (cc) (cc) (λ xs. rw (h, f))
+              let c = cut_of (pick (follows s.counter x.counter) s.under []) (before p x.at x.first) (drop x.first p) in
+              let q : took (record { counter = x.counter; under = c.under }) c.sections ≡ took later sections = rw (h, f, g) at e in
+              adds (record { counter = x.counter; lead = before p x.at x.first; from = drop x.first p }) c refl g (cc) (cc) (λ xs. rw (h, f))
 
   pub step_settles : step_of pid s p ≡ took later sections → Settled later.under
   step_settles e = go (takes e)
@@ -173,8 +171,7 @@ one_span last (x ∷ xs) e = go (one_span x.counter xs) (follows last x.counter)
     go more true f = rw f (ap (λ (y : List Load). x ∷ y) (more (rw f at e)))
     go more false f =
         let q : (x ∷ (spans_of x.counter xs).first) ∷ (spans_of x.counter xs).others ≡ [] = rw f at e in
-        let z : ◌≡◌ {A = ℕ} 0 1 = cc in
-        absurd (omega arith)
+        absurd cc
 
 pub given_concatenated : (pid : ℕ) (ps : List (List ℕ)) → Clean pid ps → given pid fresh ps ≡ concatenated pid ps
 unfolding spanned

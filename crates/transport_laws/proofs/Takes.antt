@@ -8,12 +8,12 @@ use lib.Dec.{eqb}
 use lib.ListN.{length, take, drop, get_or, length-drop}
 use lib.Seq.{length-take-le, drop-drop}
 use borrow.Author.Tests.{eqb-true}
+use Rattle.std.specs.Prelude.{Some, None}
 use Rattle.table.specs.Lent.{stored}
 use Rattle.table.proofs.Stores.{length_stored}
 use Rattle.transport_packet.specs.declared.sections.Next.{Next}
 use Rattle.transport_packet.specs.declared.sections.Next.TheVariants.{Nothing, Long, Part, Complete}
 use Rattle.transport.specs.declared.Assembler.{Assembler}
-use Rattle.transport.specs.declared.Taken.TheVariants.{Section, Done}
 use Rattle.transport_packet.specs.Sections.{section_length, next_by, next_of, Cut, under_way, and_then, cut}
 use Rattle.transport.specs.Step.{goes_on, cut_of, Settled}
 use Rattle.transport.specs.Step.Settled.{none, going}
@@ -33,16 +33,16 @@ pub record Leaves (t : Takes) (a : Assembler) (b : List ℕ) (c : Cut) : Type 0 
   pub room : length t.buffer ≡ length b
 
 never : true ≡ false → ⊥
-never e = let z : ◌≡◌ {A = ℕ} 0 1 = cc in omega arith
+never e = cc
 
 -- ---- one `take`
 
 module _ (n : ℕ) (a : Assembler) (p b : List ℕ) where
-  pub takes_done : (later : Assembler) (b' : List ℕ) → taken_of a p b ≡ giving (Done later) b' → takes_of (suc n) a p b ≡ record { sections = []; assembler = later; buffer = b' }
+  pub takes_done : (later : Assembler) (b' : List ℕ) → taken_of a p b ≡ giving (None, later) b' → takes_of (suc n) a p b ≡ record { sections = []; assembler = later; buffer = b' }
   unfolding takes_of
   takes_done later b' e = rw e
 
-  pub takes_gives : (size : ℕ) (later : Assembler) (b' : List ℕ) → taken_of a p b ≡ giving (Section size later) b'
+  pub takes_gives : (size : ℕ) (later : Assembler) (b' : List ℕ) → taken_of a p b ≡ giving (Some size, later) b'
       → takes_of (suc n) a p b
       ≡ record { sections = take size b' ∷ (takes_of n later p b').sections; assembler = (takes_of n later p b').assembler; buffer = (takes_of n later p b').buffer }
   unfolding takes_of
@@ -117,7 +117,7 @@ module _ (a : Assembler) (counter first : ℕ) (under x p b : List ℕ) (f : len
   keeps : (s : List ℕ) → next_of s ≡ Part → length (drop first p) ≡ 0 → Leaves (takes_of 190 (fed_to s) p (stored b 0 s)) (fed_to s) b (under_way s)
   keeps s e n =
       let y : take (length s) (stored b 0 s) ≡ s = taken_back b s (omega (arith, (part_shown s e).few)) in
-      let t : taken_of (fed_to s) p (stored b 0 s) ≡ giving (Done (at_rest (fed_to s))) (stored b 0 s) =
+      let t : taken_of (fed_to s) p (stored b 0 s) ≡ giving (None, at_rest (fed_to s)) (stored b 0 s) =
       taken_part (fed_to s) p (stored b 0 s) (ap next_of y ∙ e) ∙ from_nothing (fed_to s) (drop first p) (stored b 0 s) (none_next (drop first p) n) in
       rw (takes_done 189 (fed_to s) p (stored b 0 s) (at_rest (fed_to s)) (stored b 0 s) t)
       (record { sections = refl; under = y; counter = refl; pid = refl; room = length_stored b 0 s })

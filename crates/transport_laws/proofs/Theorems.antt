@@ -8,13 +8,11 @@ use native.Mathlib.Omega.{arith}
 use lib.Dec.{eqb, leb}
 use lib.ListN.{length, drop, get_or}
 use borrow.Author.Tests.{ne_eqb, leb-true, leb-false}
-use Rattle.transport_packet.specs.declared.packet.Head.{Head}
-use Rattle.transport_packet.specs.declared.packet.Head.TheVariants.{Refused, NoPayload, Payload}
+use Rattle.std.specs.Prelude.{Some, None, Ok, Err, Result}
 use Rattle.transport_packet.specs.declared.packet.Refusal.{Refusal}
 use Rattle.transport_packet.specs.declared.sections.Next.TheVariants.{Long}
 use Rattle.transport.specs.declared.Assembler.{Assembler}
-use Rattle.transport.specs.declared.Fed.TheVariants as fed
-use Rattle.transport_packet.specs.Packet.{head_of}
+use Rattle.transport_packet.specs.Packet.{Head, head_of}
 use Rattle.transport_packet.specs.Sections.{section_length, next_of, Right, Each}
 use Rattle.transport.specs.Step.{State, Told, fresh, goes_on, cut_of, before, step_of, Settled}
 use Rattle.transport.specs.Step.Told.{took}
@@ -85,22 +83,22 @@ given_right pid s (p ∷ ps) = each_append (sections_in (step_of pid s p)) (give
 
 -- ---- "A refused packet changes no state": no byte of the buffer either, from any state
 
-pub refused_keeps : (a : Assembler) (p b : List ℕ) (r : Refusal) → (fed_of a p b).answer ≡ fed.Refused r → (fed_of a p b).buffer ≡ b
+pub refused_keeps : (a : Assembler) (p b : List ℕ) (r : Refusal) → (fed_of a p b).answer ≡ Err r → (fed_of a p b).buffer ≡ b
 unfolding fed_with fed_by
 refused_keeps a p b r e = go (head_of a.pid p) refl
   where
     go : (k : Head) → head_of a.pid p ≡ k → (fed_of a p b).buffer ≡ b
-    go (Refused x) h = rw h
-    go NoPayload h = rw h
-    go (Payload counter at first) h = by_repeat (eqb counter a.counter) refl (cut_of (under_for a counter b) (before p at first) (drop first p)).long refl
+    go (Err y) h = rw h
+    go (Ok None) h = rw h
+    go (Ok (Some x)) h = by_repeat (eqb x.counter a.counter) refl (cut_of (under_for a x.counter b) (before p x.at x.first) (drop x.first p)).long refl
       where
-        by_repeat : (f : Bool) → eqb counter a.counter ≡ f → (l : Bool) → (cut_of (under_for a counter b) (before p at first) (drop first p)).long ≡ l → (fed_of a p b).buffer ≡ b
+        by_repeat : (f : Bool) → eqb x.counter a.counter ≡ f → (l : Bool) → (cut_of (under_for a x.counter b) (before p x.at x.first) (drop x.first p)).long ≡ l → (fed_of a p b).buffer ≡ b
         by_repeat true f l g = rw (h, f)
         by_repeat false f true g = rw (h, f, g)
         by_repeat false f false g =
-            let w : fed.Is (record { pid = a.pid; counter = counter; held = length (kept (under_for a counter b) (before p at first) (drop first p)); at = first }) ≡ fed.Refused r = rw (h, f, g) at e in
-            let z : ◌≡◌ {A = ℕ} 0 1 = cc in
-            absurd (omega arith)
+            let w : ◌≡◌ {A = Result Assembler Refusal} (Ok (record { pid = a.pid; counter = x.counter; held = length (kept (under_for a x.counter b) (before p x.at x.first) (drop x.first p)); at = x.first })) (Err r) =
+            rw (h, f, g) at e in
+            absurd cc
 
 -- ---- 75 "whose length it completes": of a section under way it is the packet that brings the third byte
 

@@ -1,9 +1,7 @@
 -- The standard's concatenation, of a whole list of packets at once. No word of an assembler's state.
-use Rattle.std.specs.Prelude.{ℕ, zero, suc, ◌<◌, List, [], ◌∷◌, ◌++◌, ◌≡◌, eqb, length, take, drop, get_or}
+use Rattle.std.specs.Prelude.{ℕ, zero, suc, ◌<◌, List, [], ◌∷◌, ◌++◌, ◌≡◌, eqb, length, take, drop, get_or, Some, None, Ok, Err}
 use Rattle.table.specs.Bits.{pick}
-use Rattle.transport_packet.specs.declared.packet.Head.{Head}
-use Rattle.transport_packet.specs.declared.packet.Head.TheVariants.{Refused, NoPayload, Payload}
-use Rattle.transport_packet.specs.Packet.{head_of}
+use Rattle.transport_packet.specs.Packet.{Head, head_of}
 use Rattle.transport_packet.specs.Sections.{next_of, by_next, Right}
 use Rattle.transport.specs.Step.{follows, before}
 
@@ -16,9 +14,9 @@ pub record Load : Type 0 where
   pub from : List ℕ
 
 abbrev pub load_of : List ℕ → Head → List Load
-load_of p (Refused r) = []
-load_of p NoPayload = []
-load_of p (Payload counter at first) = record { counter = counter; lead = before p at first; from = drop first p } ∷ []
+load_of p (Err r) = []
+load_of p (Ok None) = []
+load_of p (Ok (Some x)) = record { counter = x.counter; lead = before p x.at x.first; from = drop x.first p } ∷ []
 
 unfoldable pub payloads : ℕ → List (List ℕ) → List Load
 payloads pid [] = []

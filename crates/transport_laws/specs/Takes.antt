@@ -1,10 +1,7 @@
 -- A packet fed, and its sections taken until `take` says that it is done: as one step.
-use Rattle.std.specs.Prelude.{ℕ, zero, suc, ◌≤◌, List, [], ◌∷◌, ◌++◌, ◌≡◌, length, take}
+use Rattle.std.specs.Prelude.{ℕ, zero, suc, ◌≤◌, List, [], ◌∷◌, ◌++◌, ◌≡◌, length, take, Option, Some, None, Ok, Err}
 use Rattle.transport.specs.declared.Assembler.{Assembler}
 use Rattle.transport_packet.specs.declared.packet.Refusal.{Refusal}
-use Rattle.transport.specs.declared.Fed.TheVariants as fed
-use Rattle.transport.specs.declared.Taken.{Taken}
-use Rattle.transport.specs.declared.Taken.TheVariants.{Section, Done}
 use Rattle.transport.specs.Step.{State, Settled, Told}
 use Rattle.transport.specs.Step.Told.{refused, took}
 use Rattle.transport.specs.Assembler.{answering, fed_of, TakenTo, giving, taken_of}
@@ -17,12 +14,12 @@ pub record Takes : Type 0 where
   pub buffer : List ℕ
 
 abbrev pub taking : TakenTo → (Assembler → List ℕ → Takes) → Takes
-taking t more = go t.answer
+taking t more = go t.answer.0
   where
-    go : Taken → Takes
-    go (Done later) = record { sections = []; assembler = later; buffer = t.buffer }
-    go (Section size later) =
-        let m : Takes = more later t.buffer in
+    go : Option ℕ → Takes
+    go None = record { sections = []; assembler = t.answer.1; buffer = t.buffer }
+    go (Some size) =
+        let m : Takes = more t.answer.1 t.buffer in
         record { sections = take size t.buffer ∷ m.sections; assembler = m.assembler; buffer = m.buffer }
 
 -- n is any number from the packet's bytes and two on: it says that this ends
@@ -32,9 +29,9 @@ takes_of (suc n) a p b = taking (taken_of a p b) (λ later buffer. takes_of n la
 
 -- the same without a number (`Take-ends` in proofs/Ends.antt): what `take` gives until it says that it is done
 pub data Ends : Assembler → List ℕ → List ℕ → Takes → Type 0 where
-  done : {a later : Assembler} {p b b' : List ℕ} → taken_of a p b ≡ giving (Done later) b' → Ends a p b (record { sections = []; assembler = later; buffer = b' })
+  done : {a later : Assembler} {p b b' : List ℕ} → taken_of a p b ≡ giving (None, later) b' → Ends a p b (record { sections = []; assembler = later; buffer = b' })
   gives :
-      {a later : Assembler} {p b b' : List ℕ} {size : ℕ} {t : Takes} → taken_of a p b ≡ giving (Section size later) b' → Ends later p b' t
+      {a later : Assembler} {p b b' : List ℕ} {size : ℕ} {t : Takes} → taken_of a p b ≡ giving (Some size, later) b' → Ends later p b' t
       → Ends a p b (record { sections = take size b' ∷ t.sections; assembler = t.assembler; buffer = t.buffer })
 
 -- a state and a buffer as the step has them
@@ -43,9 +40,9 @@ state_of a b = record { counter = a.counter; under = take a.held b }
 
 -- what `feed` and then `take` until it is done do with a packet: what is told, and the state and the buffer after it
 pub data CodeStep : Assembler → List ℕ → List ℕ → Told → Assembler → List ℕ → Type 0 where
-  refuses : {a : Assembler} {p b b' : List ℕ} {r : Refusal} → fed_of a p b ≡ answering (fed.Refused r) b' → CodeStep a p b (refused r) a b'
+  refuses : {a : Assembler} {p b b' : List ℕ} {r : Refusal} → fed_of a p b ≡ answering (Err r) b' → CodeStep a p b (refused r) a b'
   takes :
-      {a later : Assembler} {p b b' : List ℕ} {t : Takes} → fed_of a p b ≡ answering (fed.Is later) b' → Ends later p b' t
+      {a later : Assembler} {p b b' : List ℕ} {t : Takes} → fed_of a p b ≡ answering (Ok later) b' → Ends later p b' t
       → CodeStep a p b (took (state_of t.assembler t.buffer) t.sections) t.assembler t.buffer
 
 -- all sections that the code gives of packets one after the other

@@ -7,53 +7,53 @@ use native.Mathlib.Omega.{arith}
 use lib.Dec.{eqb, leb, ltb}
 use lib.ListN.{length, get_or}
 use borrow.Author.Tests.{lt-ltb, le-ltb, le-leb, lt-leb, eq-eqb, ne_eqb, leb-true, ltb-true, eqb-true}
+use Rattle.std.specs.Prelude.{Some, None, Ok, Err}
 use Rattle.table.specs.Bits.{pick}
-use Rattle.transport_packet.specs.declared.packet.Head.{Head}
+use Rattle.transport_packet.specs.declared.packet.Payload.{Payload}
 use Rattle.transport_packet.specs.declared.packet.Refusal.TheVariants.{NotAPacket, OtherPid, Scrambled, PayloadOutside}
-use Rattle.transport_packet.specs.declared.packet.Head.TheVariants.{Refused, NoPayload, Payload}
-use Rattle.transport_packet.specs.Packet.{pid_of, payload_unit_start, scrambling_control, has_payload, counter_of, payload_at, target, unless, head_of}
+use Rattle.transport_packet.specs.Packet.{Head, bringing, pid_of, payload_unit_start, scrambling_control, has_payload, counter_of, payload_at, target, unless, head_of}
 
 module _ (pid : ℕ) (p : List ℕ) where
-  pub head_length : (length p ≡ 188 → ⊥) → head_of pid p ≡ Refused NotAPacket
+  pub head_length : (length p ≡ 188 → ⊥) → head_of pid p ≡ Err NotAPacket
   unfolding head_of
   head_length h = rw (ne_eqb _ _ h)
 
   module _ (l : length p ≡ 188) where
-    pub head_sync : (get_or p 0 0 ≡ 71 → ⊥) → head_of pid p ≡ Refused NotAPacket
+    pub head_sync : (get_or p 0 0 ≡ 71 → ⊥) → head_of pid p ≡ Err NotAPacket
     unfolding head_of
     head_sync h = rw (eq-eqb _ _ l, ne_eqb _ _ h)
 
     module _ (s : get_or p 0 0 ≡ 71) where
-      pub head_pid : (pid_of p ≡ pid → ⊥) → head_of pid p ≡ Refused OtherPid
+      pub head_pid : (pid_of p ≡ pid → ⊥) → head_of pid p ≡ Err OtherPid
       unfolding head_of
       head_pid h = rw (eq-eqb _ _ l, eq-eqb _ _ s, ne_eqb _ _ h)
 
       module _ (i : pid_of p ≡ pid) where
-        pub head_scrambled : (scrambling_control p ≡ 0 → ⊥) → head_of pid p ≡ Refused Scrambled
+        pub head_scrambled : (scrambling_control p ≡ 0 → ⊥) → head_of pid p ≡ Err Scrambled
         unfolding head_of
         head_scrambled h = rw (eq-eqb _ _ l, eq-eqb _ _ s, eq-eqb _ _ i, ne_eqb _ _ h)
 
         module _ (k : scrambling_control p ≡ 0) where
-          pub head_adaptation : 188 < payload_at p + has_payload p → head_of pid p ≡ Refused PayloadOutside
+          pub head_adaptation : 188 < payload_at p + has_payload p → head_of pid p ≡ Err PayloadOutside
           unfolding head_of
           head_adaptation h = rw (eq-eqb _ _ l, eq-eqb _ _ s, eq-eqb _ _ i, eq-eqb _ _ k, lt-leb _ _ h)
 
           module _ (a : payload_at p + has_payload p ≤ 188) where
-            pub head_none : has_payload p ≡ 0 → head_of pid p ≡ NoPayload
+            pub head_none : has_payload p ≡ 0 → head_of pid p ≡ Ok None
             unfolding head_of
             head_none h = rw (eq-eqb _ _ l, eq-eqb _ _ s, eq-eqb _ _ i, eq-eqb _ _ k, le-leb _ _ a, eq-eqb _ _ h)
 
             module _ (y : has_payload p ≡ 0 → ⊥) where
-              pub head_goes : payload_unit_start p ≡ 0 → head_of pid p ≡ Payload (counter_of p) (payload_at p) 188
+              pub head_goes : payload_unit_start p ≡ 0 → head_of pid p ≡ bringing (counter_of p) (payload_at p) 188
               unfolding head_of
               head_goes h = rw (eq-eqb _ _ l, eq-eqb _ _ s, eq-eqb _ _ i, eq-eqb _ _ k, le-leb _ _ a, ne_eqb _ _ y, eq-eqb _ _ h)
 
               module _ (u : payload_unit_start p ≡ 0 → ⊥) where
-                pub head_pointer : 188 ≤ target p → head_of pid p ≡ Refused PayloadOutside
+                pub head_pointer : 188 ≤ target p → head_of pid p ≡ Err PayloadOutside
                 unfolding head_of
                 head_pointer h = rw (eq-eqb _ _ l, eq-eqb _ _ s, eq-eqb _ _ i, eq-eqb _ _ k, le-leb _ _ a, ne_eqb _ _ y, ne_eqb _ _ u, le-ltb _ _ h)
 
-                pub head_starts : target p < 188 → head_of pid p ≡ Payload (counter_of p) (payload_at p + 1) (target p)
+                pub head_starts : target p < 188 → head_of pid p ≡ bringing (counter_of p) (payload_at p + 1) (target p)
                 unfolding head_of
                 head_starts h = rw (eq-eqb _ _ l, eq-eqb _ _ s, eq-eqb _ _ i, eq-eqb _ _ k, le-leb _ _ a, ne_eqb _ _ y, ne_eqb _ _ u, lt-ltb _ _ h)
 
@@ -65,9 +65,9 @@ pub record Placed (p : List ℕ) (counter at first : ℕ) : Type 0 where
   pub inside : first ≤ 188
 
 abbrev Stands : List ℕ → Head → Type 0
-Stands p (Refused r) = Unit {0}
-Stands p NoPayload = length p ≡ 188
-Stands p (Payload counter at first) = Placed p counter at first
+Stands p (Err r) = Unit {0}
+Stands p (Ok None) = length p ≡ 188
+Stands p (Ok (Some x)) = Placed p x.counter x.at x.first
 
 placed : (pid : ℕ) (p : List ℕ) → Stands p (head_of pid p)
 unfolding head_of
@@ -82,7 +82,7 @@ placed pid p =
         (unless s NotAPacket
         (unless i OtherPid
         (unless k Scrambled
-        (unless a PayloadOutside (pick y NoPayload (pick u (Payload (counter_of p) (payload_at p) 188) (unless t PayloadOutside (Payload (counter_of p) (payload_at p + 1) (target p))))))))))
+        (unless a PayloadOutside (pick y (Ok None) (pick u (bringing (counter_of p) (payload_at p) 188) (unless t PayloadOutside (bringing (counter_of p) (payload_at p + 1) (target p))))))))))
     go false e s i k a f y u t g = tt
     go true e false i k a f y u t g = tt
     go true e true false k a f y u t g = tt
@@ -95,8 +95,8 @@ placed pid p =
         let m : target p < 188 = ltb-true _ _ g in record { counts = omega arith; complete = eqb-true _ _ e; order = omega arith; inside = omega arith }
     go true e true true true true f false false false g = tt
 
-pub payload_placed : (pid : ℕ) (p : List ℕ) (counter at first : ℕ) → head_of pid p ≡ Payload counter at first → Placed p counter at first
-payload_placed pid p counter at first e = rw e at (placed pid p)
+pub payload_placed : (pid : ℕ) (p : List ℕ) (x : Payload) → head_of pid p ≡ Ok (Some x) → Placed p x.counter x.at x.first
+payload_placed pid p x e = rw e at (placed pid p)
 
-pub none_placed : (pid : ℕ) (p : List ℕ) → head_of pid p ≡ NoPayload → length p ≡ 188
+pub none_placed : (pid : ℕ) (p : List ℕ) → head_of pid p ≡ Ok None → length p ≡ 188
 none_placed pid p e = rw e at (placed pid p)

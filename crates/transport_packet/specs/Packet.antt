@@ -1,10 +1,9 @@
 -- A transport packet's fields by position (ISO/IEC 13818-1, 2.4.3.2 to 2.4.3.5 and 2.4.4.1), and refusals 71 to 74.
-use Rattle.std.specs.Prelude.{ℕ, ◌+◌, ◌*◌, ◌/◌, ◌%◌, Bool, List, eqb, leb, ltb, length, get_or}
+use Rattle.std.specs.Prelude.{ℕ, ◌+◌, ◌*◌, ◌/◌, ◌%◌, Bool, List, eqb, leb, ltb, length, get_or, Option, Some, None, Result, Ok, Err}
 use Rattle.table.specs.Bits.{pick}
+use Rattle.transport_packet.specs.declared.packet.Payload.{Payload}
 use Rattle.transport_packet.specs.declared.packet.Refusal.{Refusal}
 use Rattle.transport_packet.specs.declared.packet.Refusal.TheVariants.{NotAPacket, OtherPid, Scrambled, PayloadOutside, SectionLengthTooLarge}
-use Rattle.transport_packet.specs.declared.packet.Head.{Head}
-use Rattle.transport_packet.specs.declared.packet.Head.TheVariants.{Refused, NoPayload, Payload}
 
 -- the number of each refusal
 unfoldable pub number_of : Refusal → ℕ
@@ -46,9 +45,16 @@ target p = payload_at p + 1 + get_or p (payload_at p) 0
 
 -- ---- "Refusals in order"
 
+-- what a packet brings: a payload, or none; or its refusal
+abbrev pub Head : Type 0
+Head = Result (Option Payload) Refusal
+
+abbrev pub bringing : ℕ → ℕ → ℕ → Head
+bringing counter at first = Ok (Some (record { counter = counter; at = at; first = first }))
+
 -- the refusal unless the test holds
 abbrev pub unless : Bool → Refusal → Head → Head
-unless test refusal else = pick test else (Refused refusal)
+unless test refusal else = pick test else (Err refusal)
 
 -- A payload's bytes stand from `at` on, and from `first` on those of the sections that begin in the packet: 188 where none does.
 unfoldable pub head_of : ℕ → List ℕ → Head
@@ -62,8 +68,8 @@ head_of pid p =
     (unless (eqb (scrambling_control p) 0) Scrambled
     -- 74 "adaptation field past the packet's end or leaving no byte of an announced payload"
     (unless (leb (payload_at p + has_payload p) 188) PayloadOutside
-    (pick (eqb (has_payload p) 0) NoPayload
-    (pick (eqb (payload_unit_start p) 0) (Payload (counter_of p) (payload_at p) 188)
+    (pick (eqb (has_payload p) 0) (Ok None)
+    (pick (eqb (payload_unit_start p) 0) (bringing (counter_of p) (payload_at p) 188)
     -- 74 "or a pointer to byte 188 or past it"
     (unless (ltb (target p) 188) PayloadOutside
-    (Payload (counter_of p) (payload_at p + 1) (target p)))))))))
+    (bringing (counter_of p) (payload_at p + 1) (target p)))))))))

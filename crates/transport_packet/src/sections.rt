@@ -3,7 +3,7 @@ ghost use Rattle.std.specs.Prelude.{◌≡◌, ◌+◌, ◌*◌, ◌%◌, ◌<�
 ghost use Rattle.transport_packet.specs.Sections.{next_by, next_of, cut};
 
 // What stands where a section would begin: no byte or stuffing; a section_length over 4,093; a section that goes on behind the bytes; or a
-// complete one, of so many bytes.
+// complete one, of so many bytes. An enum of its own: only `feed` refuses what is too long, so it is no Err, and of a section that goes on no size is known.
 #[derive(Clone, Copy)]
 pub enum Next {
     Nothing,
@@ -13,6 +13,7 @@ pub enum Next {
 }
 
 // So many bytes, of which this is the first, and this their section_length if three are there.
+#[tactic(auto, unfolding(crate::specs::Sections::next_by))]
 pub fn next_by(count: usize, first: u8, len: usize) -> Next
     ensures { result ≡ next_by count first len }
 {
@@ -42,6 +43,7 @@ pub fn length_of(high: u8, low: u8) -> usize
 }
 
 // What stands at a place of these bytes.
+#[tactic(auto, using(crate::proofs::Bytes::next_out, crate::proofs::Bytes::next_few, crate::proofs::Bytes::next_many))]
 pub fn next_at(s: &[u8], at: usize) -> Next
     ensures { result ≡ next_of (drop at s.now) }
 {
@@ -57,13 +59,14 @@ pub fn next_at(s: &[u8], at: usize) -> Next
 }
 
 // Whether a section that begins from this place on is too long.
+#[tactic(auto, using(crate::proofs::Cuts::long_nothing, crate::proofs::Cuts::long_long, crate::proofs::Cuts::long_part, crate::proofs::Cuts::long_complete, crate::proofs::Cuts::complete_ends))]
 pub fn any_long(s: &[u8], at: usize) -> bool
     ensures { result ≡ (cut (drop at s.now)).long }
 {
     let mut i = at;
+    // A `loop`: each step is as long as the section that stands there, so no `for` counts it.
     loop {
-        let next = next_at(s, i);
-        match next {
+        match next_at(s, i) {
             Next::Nothing => return false,
             Next::Long => return true,
             Next::Part => return false,

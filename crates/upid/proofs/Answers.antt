@@ -16,12 +16,11 @@ use Rattle.upid.specs.Private.{Accepted, Announced}
 use Rattle.upid.specs.declared.Part.{Part}
 use Rattle.upid.specs.declared.Refusal.{Refusal}
 use Rattle.upid.specs.declared.Refusal.TheVariants.{NotEnoughData, InvalidUpidContent}
-use Rattle.upid.specs.declared.UpidRead.{UpidRead}
-use Rattle.upid.specs.declared.UpidRead.TheVariants.{Fine, Refused}
 use Rattle.upid.proofs.Laws.{few, then_both, read_nil, read_more, list_nil, list_more, list_plain}
 use Rattle.upid.proofs.Walks.{check_short, check_mid}
 use Rattle.upid.proofs.Cutting.{one_cutting, placed_once, placed_runs}
 use Rattle.upid.proofs.Tree.{Forest, cuts, records, Grown, size, grow, Piece, top_piece, inner_pieces, announced, shallow, ascending, owned, all_map}
+use Rattle.std.proofs.Common.{Ok, Err, Result}
 
 -- ---- the parts in an answer
 
@@ -29,10 +28,10 @@ pub parts_in_lem : (k : ℕ) (bytes : List ℕ) → parts_in (upid_of k bytes) �
 unfolding upid_of listed
 parts_in_lem k bytes = take-append_seam _ _
 
-kept : (a : UpidRead) (ps : List Part) → Accepted a → unless_refused a ps ≡ ps
+kept : (a : Result ℕ Refusal) (ps : List Part) → Accepted a → unless_refused a ps ≡ ps
 unfolding unless_refused
-kept (Fine k) ps h = refl
-kept (Refused r) ps h = absurd h
+kept (Ok k) ps h = refl
+kept (Err r) ps h = absurd h
 
 pub parts_of_mid : (top : List ℕ) → Accepted (check_of 13 top) → parts_in (upid_of 13 top) ≡ list_of 13 1 0 top
 parts_of_mid top a = parts_in_lem 13 top ∙ kept _ _ a
@@ -96,24 +95,24 @@ no_part_of_nothing top a =
 
 -- ---- how many parts, and how deep
 
-few_parts : (k : ℕ) (bytes : List ℕ) (a : UpidRead) → (Accepted a → length bytes ≤ 255) → length (unless_refused a (list_of k 1 0 bytes)) ≤ 127
+few_parts : (k : ℕ) (bytes : List ℕ) (a : Result ℕ Refusal) → (Accepted a → length bytes ≤ 255) → length (unless_refused a (list_of k 1 0 bytes)) ≤ 127
 unfolding unless_refused
-few_parts k bytes (Fine q) h = omega (arith, few k 1 0 bytes, h tt)
-few_parts k bytes (Refused r) h = omega arith
+few_parts k bytes (Ok q) h = omega (arith, few k 1 0 bytes, h tt)
+few_parts k bytes (Err r) h = omega arith
 
 pub at_most_127 : (k : ℕ) (bytes : List ℕ) → (upid_of k bytes).list.count ≤ 127
 unfolding upid_of listed
 at_most_127 k bytes = few_parts k bytes (check_of k bytes) (check_short k bytes)
 
-no_parts_lem : (k : ℕ) (bytes : List ℕ) (a : UpidRead) → (Accepted a → k ≡ 13 → ⊥) → unless_refused a (list_of k 1 0 bytes) ≡ []
+no_parts_lem : (k : ℕ) (bytes : List ℕ) (a : Result ℕ Refusal) → (Accepted a → k ≡ 13 → ⊥) → unless_refused a (list_of k 1 0 bytes) ≡ []
 unfolding unless_refused
-no_parts_lem k bytes (Fine q) h = list_plain k 1 0 bytes (h tt)
-no_parts_lem k bytes (Refused r) h = refl
+no_parts_lem k bytes (Ok q) h = list_plain k 1 0 bytes (h tt)
+no_parts_lem k bytes (Err r) h = refl
 
 pub no_mid_no_parts : (k : ℕ) (bytes : List ℕ) → (k ≡ 13 → ⊥) → parts_in (upid_of k bytes) ≡ []
 no_mid_no_parts k bytes h = parts_in_lem k bytes ∙ no_parts_lem k bytes _ (λ _. h)
 
-pub refused_no_parts : (k : ℕ) (bytes : List ℕ) (r : Refusal) → check_of k bytes ≡ Refused r → parts_in (upid_of k bytes) ≡ []
+pub refused_no_parts : (k : ℕ) (bytes : List ℕ) (r : Refusal) → check_of k bytes ≡ Err r → parts_in (upid_of k bytes) ≡ []
 refused_no_parts k bytes r e = parts_in_lem k bytes ∙ no_parts_lem k bytes _ (λ a. absurd (rw e at a))
 
 mid_levels : (top : List ℕ) → Accepted (check_of 13 top) → All (λ (p : Part). (1 ≤ p.level) × (p.level ≤ 127)) (parts_in (upid_of 13 top))
@@ -126,9 +125,9 @@ mid_levels top a =
 pub levels : (k : ℕ) (bytes : List ℕ) → All (λ (p : Part). (1 ≤ p.level) × (p.level ≤ 127)) (parts_in (upid_of k bytes))
 levels k bytes = go (eqb k 13) refl
   where
-    of_read : (a : UpidRead) → check_of k bytes ≡ a → k ≡ 13 → All (λ (p : Part). (1 ≤ p.level) × (p.level ≤ 127)) (parts_in (upid_of k bytes))
-    of_read (Fine q) e h = let a : Accepted (check_of 13 bytes) = rw (← h, e) tt in rw h (mid_levels bytes a)
-    of_read (Refused r) e h = rw (refused_no_parts k bytes r e) none
+    of_read : (a : Result ℕ Refusal) → check_of k bytes ≡ a → k ≡ 13 → All (λ (p : Part). (1 ≤ p.level) × (p.level ≤ 127)) (parts_in (upid_of k bytes))
+    of_read (Ok q) e h = let a : Accepted (check_of 13 bytes) = rw (← h, e) tt in rw h (mid_levels bytes a)
+    of_read (Err r) e h = rw (refused_no_parts k bytes r e) none
 
     go : (t : Bool) → eqb k 13 ≡ t → All (λ (p : Part). (1 ≤ p.level) × (p.level ≤ 127)) (parts_in (upid_of k bytes))
     go true e = of_read (check_of k bytes) refl (eqb-true k 13 e)
@@ -149,14 +148,14 @@ all_127 k bytes =
 -- ---- pieces that are accepted make up a MID that is accepted
 
 -- where a payload lies does not matter
-either : (t : Bool) (a b c d : UpidRead) → (Accepted a → Accepted c) → (Accepted b → Accepted d) → Accepted (pick t a b) → Accepted (pick t c d)
+either : (t : Bool) (a b c d : Result ℕ Refusal) → (Accepted a → Accepted c) → (Accepted b → Accepted d) → Accepted (pick t a b) → Accepted (pick t c d)
 either true a b c d f g h = f h
 either false a b c d f g h = g h
 
-pub then_all : (a b : UpidRead) → Accepted a → Accepted b → Accepted (a then b)
+pub then_all : (a b : Result ℕ Refusal) → Accepted a → Accepted b → Accepted (a then b)
 unfolding ◌then◌
-then_all (Fine k) b ha hb = hb
-then_all (Refused r) b ha hb = absurd ha
+then_all (Ok k) b ha hb = hb
+then_all (Err r) b ha hb = absurd ha
 
 plain_anywhere : (k s t : ℕ) (bytes : List ℕ) → Accepted (plain_of k s bytes) → Accepted (plain_of k t bytes)
 unfolding plain_of
@@ -197,7 +196,7 @@ pub check_of_read : (k : ℕ) (s : List ℕ) → length s ≤ 255 → Accepted (
 unfolding check_of
 check_of_read k s n a = rw (le-ltb _ _ n) (go (eqb (length s) 0))
   where
-    go : (t : Bool) → Accepted (pick t (Fine 0) (read_of k 0 s))
+    go : (t : Bool) → Accepted (pick t (Ok 0) (read_of k 0 s))
     go true = tt
     go false = a
 
@@ -232,27 +231,27 @@ pieces_write_read_plain cs n h p =
 
 -- ---- the view of a refusal 24 lies in the UPID
 
-Inside : ℕ → UpidRead → Type 0
-Inside end a = (k : ℕ) (v : View) → a ≡ Refused (InvalidUpidContent k v) → v.at + v.len ≤ end
+Inside : ℕ → Result ℕ Refusal → Type 0
+Inside end a = (k : ℕ) (v : View) → a ≡ Err (InvalidUpidContent k v) → v.at + v.len ≤ end
 
-inside_fine : (end k : ℕ) → Inside end (Fine k)
+inside_fine : (end k : ℕ) → Inside end (Ok k)
 unfolding Inside
 inside_fine end k q v e = let z : ◌≡◌ {A = ℕ} 0 1 = cc in absurd (omega arith)
 
-inside_wider : (m n : ℕ) (a : UpidRead) → m ≤ n → Inside m a → Inside n a
+inside_wider : (m n : ℕ) (a : Result ℕ Refusal) → m ≤ n → Inside m a → Inside n a
 unfolding Inside
 inside_wider m n a l h k v e = omega (arith, h k v e)
 
-inside_pick : (end : ℕ) (t : Bool) (a b : UpidRead) → Inside end a → (t ≡ false → Inside end b) → Inside end (pick t a b)
+inside_pick : (end : ℕ) (t : Bool) (a b : Result ℕ Refusal) → Inside end a → (t ≡ false → Inside end b) → Inside end (pick t a b)
 inside_pick end true a b ha hb = ha
 inside_pick end false a b ha hb = hb refl
 
-inside_then : (end : ℕ) (a b : UpidRead) → Inside end a → Inside end b → Inside end (a then b)
+inside_then : (end : ℕ) (a b : Result ℕ Refusal) → Inside end a → Inside end b → Inside end (a then b)
 unfolding ◌then◌
-inside_then end (Fine k) b ha hb = hb
-inside_then end (Refused r) b ha hb = ha
+inside_then end (Ok k) b ha hb = hb
+inside_then end (Err r) b ha hb = ha
 
-inside_short : (end expected actual : ℕ) → Inside end (Refused (NotEnoughData expected actual))
+inside_short : (end expected actual : ℕ) → Inside end (Err (NotEnoughData expected actual))
 unfolding Inside
 inside_short end expected actual q v e = let z : ◌≡◌ {A = ℕ} 0 1 = cc in absurd (omega arith)
 
@@ -279,7 +278,7 @@ inside_walk (suc n) start (k ∷ (l ∷ rest)) =
     (inside_pick _ (eqb k 13) _ _ (inside_wider _ _ _ m (inside_walk n (start + 2) (take l rest))) (λ _. inside_wider _ _ _ m (inside_plain k (start + 2) (take l rest))))
     (inside_wider (start + (2 + l) + length (drop l rest)) _ _ (omega (arith, length-drop l rest)) (inside_walk n (start + (2 + l)) (drop l rest))))
 
-pub view_inside : (k : ℕ) (bytes : List ℕ) (q : ℕ) (v : View) → check_of k bytes ≡ Refused (InvalidUpidContent q v) → v.at + v.len ≤ length bytes
+pub view_inside : (k : ℕ) (bytes : List ℕ) (q : ℕ) (v : View) → check_of k bytes ≡ Err (InvalidUpidContent q v) → v.at + v.len ≤ length bytes
 unfolding Inside check_of read_of
 view_inside k bytes q v =
     inside_pick (length bytes) (ltb 255 (length bytes)) _ _ (λ q v e. let z : ◌≡◌ {A = ℕ} 0 1 = cc in absurd (omega arith)) (λ _.
@@ -326,6 +325,6 @@ module _ (j k : ℕ) (a b : List ℕ) (la : length a ≡ 8) (lb : length b ≡ 1
 
 -- ---- an EIDR
 
-pub eidr_held : (bytes : List ℕ) → length bytes ≡ 12 → ((upid_of 10 bytes).read ≡ Fine 10) × ((upid_of 10 bytes).eidr ≡ bytes)
+pub eidr_held : (bytes : List ℕ) → length bytes ≡ 12 → ((upid_of 10 bytes).read ≡ Ok 10) × ((upid_of 10 bytes).eidr ≡ bytes)
 unfolding upid_of check_of read_of plain_of eidr_of length_of is_text reported_of
 eidr_held bytes h = (rw h, rw h)

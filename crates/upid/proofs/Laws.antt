@@ -16,8 +16,7 @@ use Rattle.upid.specs.Upid.{◌then◌, walk_of, read_of, parts_of, list_of, pla
 use Rattle.upid.specs.declared.Part.{Part}
 use Rattle.upid.specs.declared.Refusal.{Refusal}
 use Rattle.upid.specs.declared.Refusal.TheVariants.{NotEnoughData}
-use Rattle.upid.specs.declared.UpidRead.{UpidRead}
-use Rattle.upid.specs.declared.UpidRead.TheVariants.{Fine, Refused}
+use Rattle.std.proofs.Common.{Ok, Err, Result}
 
 -- what a definition gives at a number, it gives at what equals that number
 pub at_number : {A : Type 0} (f : ℕ → A) {v : A} (k n : ℕ) → f n ≡ v → k ≡ n → v ≡ f k
@@ -25,7 +24,7 @@ at_number f k n e h = sym (ap f h ∙ e)
 
 -- ---- the number that says that the reading ends
 
-walk_nil : (m start : ℕ) → walk_of m start [] ≡ Fine 13
+walk_nil : (m start : ℕ) → walk_of m start [] ≡ Ok 13
 unfolding walk_of
 walk_nil zero start = refl
 walk_nil (suc m) start = refl
@@ -67,17 +66,17 @@ parts_any (suc n) (suc m) level start (k ∷ (l ∷ rest)) hn hm =
 
 -- ---- a MID, byte by byte from its front
 
-pub read_nil : (start : ℕ) → read_of 13 start [] ≡ Fine 13
+pub read_nil : (start : ℕ) → read_of 13 start [] ≡ Ok 13
 unfolding read_of walk_of
 read_nil start = refl
 
-pub read_one : (start k : ℕ) → read_of 13 start (k ∷ []) ≡ Refused (NotEnoughData 1 0)
+pub read_one : (start k : ℕ) → read_of 13 start (k ∷ []) ≡ Err (NotEnoughData 1 0)
 unfolding read_of walk_of
 read_one start k = refl
 
 -- a head of two bytes: its payload is short, or it is a part and what follows
 pub read_more : (start k l : ℕ) (rest : List ℕ) → read_of 13 start (k ∷ (l ∷ rest)) ≡
-    pick (ltb (length rest) l) (Refused (NotEnoughData l (length rest)))
+    pick (ltb (length rest) l) (Err (NotEnoughData l (length rest)))
     (read_of k (start + 2) (take l rest) then read_of 13 (start + (2 + l)) (drop l rest))
 unfolding read_of walk_of
 read_more start k l rest =
@@ -148,16 +147,16 @@ few k level start bytes = few_or_none (eqb k 13) _ _ (few_parts (length bytes) l
 
 -- ---- what is accepted
 
-pub then_both : (a b : UpidRead) → Accepted (a then b) → Accepted a × Accepted b
+pub then_both : (a b : Result ℕ Refusal) → Accepted (a then b) → Accepted a × Accepted b
 unfolding ◌then◌
-then_both (Fine k) b h = (tt, h)
-then_both (Refused r) b h = absurd h
+then_both (Ok k) b h = (tt, h)
+then_both (Err r) b h = absurd h
 
-pub then_off : (a b : UpidRead) (r : Refusal) → a ≡ Refused r → a then b ≡ Refused r
+pub then_off : (a b : Result ℕ Refusal) (r : Refusal) → a ≡ Err r → a then b ≡ Err r
 unfolding ◌then◌
 then_off a b r e = rw e
 
-pub then_on : (a b : UpidRead) (k : ℕ) → a ≡ Fine k → a then b ≡ b
+pub then_on : (a b : Result ℕ Refusal) (k : ℕ) → a ≡ Ok k → a then b ≡ b
 unfolding ◌then◌
 then_on a b k e = rw e
 

@@ -6,17 +6,17 @@ use Rattle.upid.specs.Text.{text_of, done, step, within}
 use Rattle.upid.specs.Upid.{number_of, values_of, upid_of, check_of, read_of, walk_of, ◌then◌, plain_of, length_of, is_text, reported_of, list_of, parts_of, listed, unless_refused, parts_in}
 use Rattle.upid.specs.declared.Part.{Part}
 use Rattle.upid.specs.declared.Upid.{Upid}
-use Rattle.upid.specs.declared.UpidRead.{UpidRead}
-use Rattle.upid.specs.declared.UpidRead.TheVariants.{Fine, Refused}
+use Rattle.std.proofs.Common.{Ok, Err, None, Result}
+use Rattle.upid.specs.declared.Refusal.{Refusal}
 
 -- an answer in document 01's terms: a reported type with parts, or a refusal's number with its values
 pub data Told : Type 0 where
   accepted : ℕ → List Part → Told
   refused : ℕ → List ℕ → Told
 
-unfoldable pub tells : UpidRead → List Part → Told
-tells (Fine k) ps = accepted k ps
-tells (Refused r) ps = refused (number_of r) (values_of r)
+unfoldable pub tells : Result ℕ Refusal → List Part → Told
+tells (Ok k) ps = accepted k ps
+tells (Err r) ps = refused (number_of r) (values_of r)
 
 abbrev pub told : Upid → Told
 told u = tells u.read (parts_in u)

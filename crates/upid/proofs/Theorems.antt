@@ -13,10 +13,10 @@ use Rattle.upid.specs.Cover.{All, Cut, joined, placed, top_part, bytes_of, direc
 use Rattle.upid.specs.declared.Part.{Part}
 use Rattle.upid.specs.declared.Refusal.{Refusal}
 use Rattle.upid.specs.declared.Refusal.TheVariants.{InvalidUpidContent}
-use Rattle.upid.specs.declared.UpidRead.TheVariants.{Fine, Refused}
 use Rattle.upid.proofs.Cutting as cutting
 use Rattle.upid.proofs.Answers as answers
 use Rattle.upid.proofs.Utf8 as utf8
+use Rattle.std.proofs.Common.{Ok, Err}
 
 -- ---- no identifier is split
 
@@ -82,7 +82,7 @@ all_zero_past_the_count k bytes = (answers.blank_past_count k bytes, answers.all
 pub only_a_mid_has_parts : (k : ℕ) (bytes : List ℕ) → (k ≡ 13 → ⊥) → parts_in (upid_of k bytes) ≡ []
 only_a_mid_has_parts = answers.no_mid_no_parts
 
-pub a_refusal_has_no_parts : (k : ℕ) (bytes : List ℕ) (r : Refusal) → (upid_of k bytes).read ≡ Refused r → parts_in (upid_of k bytes) ≡ []
+pub a_refusal_has_no_parts : (k : ℕ) (bytes : List ℕ) (r : Refusal) → (upid_of k bytes).read ≡ Err r → parts_in (upid_of k bytes) ≡ []
 unfolding upid_of
 a_refusal_has_no_parts = answers.refused_no_parts
 
@@ -92,14 +92,14 @@ nested zero = []
 nested (suc n) = 13 ∷ (length (nested n) ∷ nested n)
 
 -- 127 parts and 128 levels are reached
-pub deepest : ((upid_of 13 (nested 127)).read ≡ Fine 13) × ((upid_of 13 (nested 127)).list.count ≡ 127)
+pub deepest : ((upid_of 13 (nested 127)).read ≡ Ok 13) × ((upid_of 13 (nested 127)).list.count ≡ 127)
     × ((get_or (upid_of 13 (nested 127)).list.parts 126 (top_part [])).level ≡ 127)
 unfolding nested upid_of check_of read_of walk_of plain_of ◌then◌ list_of parts_of listed unless_refused
 deepest = (refl, refl, refl)
 
 -- ---- the EIDR identifier
 
-pub eidr_is_held_by_value : (bytes : List ℕ) → length bytes ≡ 12 → ((upid_of 10 bytes).read ≡ Fine 10) × ((upid_of 10 bytes).eidr ≡ bytes)
+pub eidr_is_held_by_value : (bytes : List ℕ) → length bytes ≡ 12 → ((upid_of 10 bytes).read ≡ Ok 10) × ((upid_of 10 bytes).eidr ≡ bytes)
 eidr_is_held_by_value = answers.eidr_held
 
 -- ---- text
@@ -117,5 +117,5 @@ no_byte_begins_two_rows = utf8.one_row
 -- ---- for readers of what holds a UPID
 
 -- the view of a refusal 24 lies in the UPID
-pub view_of_24_lies_inside : (k : ℕ) (bytes : List ℕ) (q : ℕ) (v : View) → check_of k bytes ≡ Refused (InvalidUpidContent q v) → v.at + v.len ≤ length bytes
+pub view_of_24_lies_inside : (k : ℕ) (bytes : List ℕ) (q : ℕ) (v : View) → check_of k bytes ≡ Err (InvalidUpidContent q v) → v.at + v.len ≤ length bytes
 view_of_24_lies_inside = answers.view_inside

@@ -18,9 +18,8 @@ use Rattle.upid.specs.declared.Part.{Part}
 use Rattle.upid.specs.declared.PartList.{PartList}
 use Rattle.upid.specs.declared.Refusal.{Refusal}
 use Rattle.upid.specs.declared.Refusal.TheVariants.{NotEnoughData}
-use Rattle.upid.specs.declared.UpidRead.{UpidRead}
-use Rattle.upid.specs.declared.UpidRead.TheVariants.{Fine, Refused}
 use Rattle.upid.proofs.Laws.{read_nil, read_one, read_more, list_nil, then_off, then_on, by_cases}
+use Rattle.std.proofs.Common.{Ok, Err, Result}
 
 -- ---- a MID from a place `at` of its bytes on
 
@@ -35,18 +34,18 @@ at_more s at h l =
     let e : at + 2 ≡ suc (suc at) = omega arith in
     rw (drop-cons s at 0 h, drop-cons s (suc at) 0 h2, add-one, e)
 
-pub read_end : (start at : ℕ) (s : List ℕ) → length s ≤ at → read_of 13 start (drop at s) ≡ Fine 13
+pub read_end : (start at : ℕ) (s : List ℕ) → length s ≤ at → read_of 13 start (drop at s) ≡ Ok 13
 read_end start at s h = rw (drop_of_length-le s h) (read_nil start)
 
 pub list_end : (level start at : ℕ) (s : List ℕ) → length s ≤ at → list_of 13 level start (drop at s) ≡ []
 list_end level start at s h = rw (drop_of_length-le s h) (list_nil level start)
 
-pub read_head : (start at : ℕ) (s : List ℕ) → at < length s → length s - at < 2 → read_of 13 start (drop at s) ≡ Refused (NotEnoughData 1 0)
+pub read_head : (start at : ℕ) (s : List ℕ) → at < length s → length s - at < 2 → read_of 13 start (drop at s) ≡ Err (NotEnoughData 1 0)
 read_head start at s h l = rw (at_one s at h l) (read_one start (get_or s at 0))
 
 -- a part with its head of two bytes, and n bytes that its head announces
 module _ (start at n : ℕ) (s : List ℕ) (inside : at < length s) (head : 2 ≤ length s - at) (en : n ≡ get_or s (at + 1) 0) where
-  pub read_short : length s - (at + 2) < n → read_of 13 start (drop at s) ≡ Refused (NotEnoughData n (length s - (at + 2)))
+  pub read_short : length s - (at + 2) < n → read_of 13 start (drop at s) ≡ Err (NotEnoughData n (length s - (at + 2)))
   read_short short =
       let e : length (drop (at + 2) s) ≡ length s - (at + 2) = length-drop (at + 2) s in
       rw (at_more s at inside head, read_more, ← en, e, lt-ltb _ _ short)
@@ -72,12 +71,12 @@ module _ (start at n : ℕ) (s : List ℕ) (inside : at < length s) (head : 2 �
         then read_of 13 (start + (at + 2 + n)) (drop (at + 2 + n) s))
     read_turn = rw (at_more s at inside head, read_more, ← en, ends, le-ltb _ _ present, here, there, overall, drop-drop)
 
-    pub read_stop : (inner : UpidRead) (r : Refusal) → inner ≡ read_of (get_or s at 0) (start + (at + 2)) (take (at + 2 + n - (at + 2)) (drop (at + 2) s))
-        → inner ≡ Refused r → read_of 13 (start + at) (drop at s) ≡ Refused r
+    pub read_stop : (inner : Result ℕ Refusal) (r : Refusal) → inner ≡ read_of (get_or s at 0) (start + (at + 2)) (take (at + 2 + n - (at + 2)) (drop (at + 2) s))
+        → inner ≡ Err r → read_of 13 (start + at) (drop at s) ≡ Err r
     read_stop inner r e f = read_turn ∙ then_off _ _ r (sym e ∙ f)
 
-    pub read_on : (inner : UpidRead) (k : ℕ) → inner ≡ read_of (get_or s at 0) (start + (at + 2)) (take (at + 2 + n - (at + 2)) (drop (at + 2) s))
-        → inner ≡ Fine k → read_of 13 (start + at) (drop at s) ≡ read_of 13 (start + (at + 2 + n)) (drop (at + 2 + n) s)
+    pub read_on : (inner : Result ℕ Refusal) (k : ℕ) → inner ≡ read_of (get_or s at 0) (start + (at + 2)) (take (at + 2 + n - (at + 2)) (drop (at + 2) s))
+        → inner ≡ Ok k → read_of 13 (start + at) (drop at s) ≡ read_of 13 (start + (at + 2 + n)) (drop (at + 2 + n) s)
     read_on inner k e f = read_turn ∙ then_on _ _ k (sym e ∙ f)
 
 -- ---- a list that grows
@@ -148,11 +147,11 @@ check_mid bytes a =
     (λ some. let ne : length bytes ≡ 0 → ⊥ = omega arith in rw (le-ltb _ _ (check_short 13 bytes a), ne_eqb _ _ ne) at a)
     (λ none. let e : bytes ≡ [] = empty bytes (omega arith) in rw (e, read_nil) tt)
 
-module _ (k : ℕ) (bytes id : List ℕ) (read : UpidRead) (list : PartList) (eread : read ≡ check_of k bytes) (eid : id ≡ eidr_of k bytes) where
-  pub answer_refused : (r : Refusal) → read ≡ Refused r → list ≡ listed [] → record { read = read; eidr = id; list = list } ≡ upid_of k bytes
+module _ (k : ℕ) (bytes id : List ℕ) (read : Result ℕ Refusal) (list : PartList) (eread : read ≡ check_of k bytes) (eid : id ≡ eidr_of k bytes) where
+  pub answer_refused : (r : Refusal) → read ≡ Err r → list ≡ listed [] → record { read = read; eidr = id; list = list } ≡ upid_of k bytes
   unfolding upid_of unless_refused
   answer_refused r e el = rw (eid, el, ← eread, e)
 
-  pub answer_fine : (q : ℕ) → read ≡ Fine q → list ≡ listed (list_of k 1 0 bytes) → record { read = read; eidr = id; list = list } ≡ upid_of k bytes
+  pub answer_fine : (q : ℕ) → read ≡ Ok q → list ≡ listed (list_of k 1 0 bytes) → record { read = read; eidr = id; list = list } ≡ upid_of k bytes
   unfolding upid_of unless_refused
   answer_fine q e el = rw (eid, el, ← eread, e)

@@ -1,14 +1,13 @@
 -- What the contracts of private functions and the laws of this crate say. No public contract cites this.
-use Rattle.std.specs.Prelude.{ℕ, zero, suc, ◌+◌, ◌-◌, ◌≤◌, List, [], ◌∷◌, ◌++◌, ◌≡◌, length, take, drop, get_or, replicate}
+use Rattle.std.specs.Prelude.{ℕ, zero, suc, ◌+◌, ◌-◌, ◌≤◌, List, [], ◌∷◌, ◌++◌, ◌≡◌, length, take, drop, get_or, replicate, Ok, Err, Result}
 use Rattle.std.proofs.lemmas.List.Edits.{sets}
 use Rattle.upid.specs.Text.{State, wants, broken, ◌to◌, tail}
 use Rattle.upid.specs.Upid.{read_of, list_of, reported_of}
 use Rattle.upid.specs.declared.Part.{Part}
 use Rattle.upid.specs.declared.PartList.{PartList}
-use Rattle.upid.specs.declared.UpidRead.{UpidRead}
-use Rattle.upid.specs.declared.UpidRead.TheVariants.{Fine, Refused}
 use Rattle.upid.specs.declared.text.Stand.{Stand}
 use Rattle.upid.specs.declared.text.Stand.TheVariants.{Between, Want, Broken}
+use Rattle.upid.specs.declared.Refusal.{Refusal}
 
 -- what a `Stand` stands for
 abbrev pub meaning : Stand → State
@@ -20,9 +19,9 @@ meaning Broken = broken
 unfoldable pub grown : PartList → List Part → PartList
 grown w ps = record { parts = sets w.parts w.count ps; count = w.count + length ps }
 
-abbrev pub Accepted : UpidRead → Type 0
-Accepted (Fine k) = Unit {0}
-Accepted (Refused r) = ⊥
+abbrev pub Accepted : Result ℕ Refusal → Type 0
+Accepted (Ok k) = Unit {0}
+Accepted (Err r) = ⊥
 
 -- The part p is the payload that its own head announces, two bytes before it in the top UPID, and lies in that UPID whole.
 pub record Announced (top : List ℕ) (p : Part) : Type 0 where

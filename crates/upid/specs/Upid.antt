@@ -1,5 +1,5 @@
 -- What a UPID says (document 01, "Identifiers").
-use Rattle.std.specs.Prelude.{ℕ, zero, suc, ◌+◌, Bool, not, ◌&&◌, ◌||◌, cond as pick, List, [], ◌∷◌, ◌++◌, ltb, eqb, length, take, drop, replicate}
+use Rattle.std.specs.Prelude.{ℕ, zero, suc, ◌+◌, Bool, not, ◌&&◌, ◌||◌, cond as pick, List, [], ◌∷◌, ◌++◌, ltb, eqb, length, take, drop, replicate, Ok, Err, None, Result}
 use Rattle.table.specs.Lent.{filled_to}
 use Rattle.table.specs.declared.View.{View}
 use Rattle.upid.specs.Text.{text_of}
@@ -8,8 +8,6 @@ use Rattle.upid.specs.declared.PartList.{PartList}
 use Rattle.upid.specs.declared.Upid.{Upid}
 use Rattle.upid.specs.declared.Refusal.{Refusal}
 use Rattle.upid.specs.declared.Refusal.TheVariants.{InputTooLong, NotEnoughData, UpidLengthTypeMismatch, InvalidUpidContent, InvalidUpidLength}
-use Rattle.upid.specs.declared.UpidRead.{UpidRead}
-use Rattle.upid.specs.declared.UpidRead.TheVariants.{Fine, Refused}
 
 -- ---- document 01's number and values of each refusal
 
@@ -46,35 +44,35 @@ reported_of k = pick (eqb k 5) 6 k
 
 -- A payload of type k, other than a MID, that starts at `start` of the top UPID: type 0 has none, a type without a fixed length takes any
 -- bytes, and length is tested before text.
-unfoldable pub plain_of : ℕ → ℕ → List ℕ → UpidRead
+unfoldable pub plain_of : ℕ → ℕ → List ℕ → Result ℕ Refusal
 plain_of k start bytes =
-    pick (eqb k 0) (Refused UpidLengthTypeMismatch)
-    (pick (eqb (length_of k) 0) (Fine (reported_of k))
-    (pick (not (eqb (length bytes) (length_of k))) (Refused (InvalidUpidLength k (length_of k) (length bytes)))
-    (pick (is_text k && not (text_of bytes)) (Refused (InvalidUpidContent k (record { at = start; len = length bytes })))
-    (Fine (reported_of k)))))
+    pick (eqb k 0) (Err UpidLengthTypeMismatch)
+    (pick (eqb (length_of k) 0) (Ok (reported_of k))
+    (pick (not (eqb (length bytes) (length_of k))) (Err (InvalidUpidLength k (length_of k) (length bytes)))
+    (pick (is_text k && not (text_of bytes)) (Err (InvalidUpidContent k (record { at = start; len = length bytes })))
+    (Ok (reported_of k)))))
 
 -- ---- a MID "repeats type, length, payload"
 
 -- "the first faulty part ends the walk at once and its refusal stands"
 infixr 40 ◌then◌
-unfoldable pub ◌then◌ : UpidRead → UpidRead → UpidRead
-Fine k then b = b
-Refused r then b = Refused r
+unfoldable pub ◌then◌ : Result ℕ Refusal → Result ℕ Refusal → Result ℕ Refusal
+Ok k then b = b
+Err r then b = Err r
 
 -- A MID with these bytes. "Fewer than 2 bytes: 21 (1, 0). Payload short, tested first: 21 (length, present)"; then the part itself, and then
 -- those after it. n is any number from the count of the bytes on: it says that the reading ends (`walk_any` in proofs/Laws.antt).
-unfoldable pub walk_of : ℕ → ℕ → List ℕ → UpidRead
-walk_of zero start bytes = Fine 13
-walk_of (suc n) start [] = Fine 13
-walk_of (suc n) start (k ∷ []) = Refused (NotEnoughData 1 0)
+unfoldable pub walk_of : ℕ → ℕ → List ℕ → Result ℕ Refusal
+walk_of zero start bytes = Ok 13
+walk_of (suc n) start [] = Ok 13
+walk_of (suc n) start (k ∷ []) = Err (NotEnoughData 1 0)
 walk_of (suc n) start (k ∷ (l ∷ rest)) =
-    pick (ltb (length rest) l) (Refused (NotEnoughData l (length rest)))
+    pick (ltb (length rest) l) (Err (NotEnoughData l (length rest)))
     (pick (eqb k 13) (walk_of n (start + 2) (take l rest)) (plain_of k (start + 2) (take l rest))
     then walk_of n (start + (2 + l)) (drop l rest))
 
 -- a payload of any type
-unfoldable pub read_of : ℕ → ℕ → List ℕ → UpidRead
+unfoldable pub read_of : ℕ → ℕ → List ℕ → Result ℕ Refusal
 read_of k start bytes = pick (eqb k 13) (walk_of (length bytes) start bytes) (plain_of k start bytes)
 
 -- The parts of a MID that is accepted, "outer part before its inner ones", and then those after it.
@@ -94,10 +92,10 @@ list_of k level start bytes = pick (eqb k 13) (parts_of (length bytes) level sta
 -- ---- the answers
 
 -- "Length 0 at top level is None and reports type 0, whichever type was written"
-unfoldable pub check_of : ℕ → List ℕ → UpidRead
+unfoldable pub check_of : ℕ → List ℕ → Result ℕ Refusal
 check_of k bytes =
-    pick (ltb 255 (length bytes)) (Refused InputTooLong)
-    (pick (eqb (length bytes) 0) (Fine 0)
+    pick (ltb 255 (length bytes)) (Err InputTooLong)
+    (pick (eqb (length bytes) 0) (Ok 0)
     (read_of k 0 bytes))
 
 -- "The EIDR identifier of 12 bytes is held by value"; all zero where there is none
@@ -112,9 +110,9 @@ unfoldable pub listed : List Part → PartList
 listed ps = record { parts = filled_to 127 blank_part ps; count = length ps }
 
 -- the parts of what is accepted, and none of what is refused
-unfoldable pub unless_refused : UpidRead → List Part → List Part
-unless_refused (Fine k) ps = ps
-unless_refused (Refused r) ps = []
+unfoldable pub unless_refused : Result ℕ Refusal → List Part → List Part
+unless_refused (Ok k) ps = ps
+unless_refused (Err r) ps = []
 
 unfoldable pub upid_of : ℕ → List ℕ → Upid
 upid_of k bytes =

@@ -3,10 +3,12 @@
 
 ghost use Rattle.std.specs.Prelude.{◌≡◌};
 ghost use Rattle.table.specs.Lent.{viewed};
+ghost use Rattle.upid.specs.declared.Refusal.TheVariants.{NotEnoughData};
 ghost use Rattle.upid.specs.Upid.{check_of, upid_of, eidr_of, part_view};
 
 use crate::mid::{blank, check_payload, list_parts};
 use table::View;
+use table::cursor::Short;
 use table::lent::view;
 
 mod mid;
@@ -43,11 +45,16 @@ pub enum Refusal {
     },
 }
 
-// What a UPID is read as: its reported type, or the first refusal.
-#[derive(Clone, Copy)]
-pub enum UpidRead {
-    Fine(u8),
-    Refused(Refusal),
+// 21 of what the fields of a table lack.
+impl From<Short> for Refusal {
+    ghost from_gives = { λ e r. r ≡ NotEnoughData e.expected e.actual };
+
+    fn from(e: Short) -> Refusal {
+        Refusal::NotEnoughData {
+            expected: e.expected,
+            actual: e.actual,
+        }
+    }
 }
 
 // A part of a MID: its reported type, its level (1 for the direct parts of the top MID), and its payload, `len` bytes from `start` of the top UPID on.
@@ -59,7 +66,7 @@ pub struct Part {
     pub len: u8,
 }
 
-// The parts of a MID, each before those inside it; all zero past the count.
+// The parts of a MID, each before those inside it; all zero past the count. (An array with its count: fixed memory, no heap.)
 #[derive(Clone, Copy)]
 pub struct PartList {
     pub parts: [Part; MAX_PARTS],
@@ -69,20 +76,20 @@ pub struct PartList {
 // The whole answer: an EIDR by value, all zero where the UPID is no EIDR, and a MID's parts.
 #[derive(Clone, Copy)]
 pub struct Upid {
-    pub read: UpidRead,
+    pub read: Result<u8, Refusal>,
     pub eidr: [u8; 12],
     pub list: PartList,
 }
 
 // What the bytes are read as under the type `upid_type`, without the list of parts.
-pub fn check_upid(upid_type: u8, upid: &[u8]) -> UpidRead
+pub fn check_upid(upid_type: u8, upid: &[u8]) -> Result<u8, Refusal>
     ensures { result ≡ check_of upid_type upid.now }
 {
     if MAX_UPID < upid.len() {
-        return UpidRead::Refused(Refusal::InputTooLong);
+        return Err(Refusal::InputTooLong);
     }
     if upid.len() == 0 {
-        return UpidRead::Fine(0);
+        return Ok(0);
     }
     check_payload(upid_type, upid, 0)
 }
@@ -94,12 +101,12 @@ pub fn read_upid(upid_type: u8, upid: &[u8]) -> Upid
     let held = eidr(upid_type, upid);
     let read = check_upid(upid_type, upid);
     match read {
-        UpidRead::Refused(_) => Upid {
+        Err(_) => Upid {
             read,
             eidr: held,
             list: blank(),
         },
-        UpidRead::Fine(_) => Upid {
+        Ok(_) => Upid {
             read,
             eidr: held,
             list: list_parts(upid_type, upid),
@@ -118,11 +125,7 @@ pub fn eidr(upid_type: u8, upid: &[u8]) -> [u8; 12]
     if upid.len() != 12 {
         return out;
     }
-    let mut i: usize = 0;
-    while i < 12 {
-        out[i] = upid[i];
-        i += 1;
-    }
+    out.copy_from_slice(upid);
     out
 }
 

@@ -4,51 +4,42 @@ ghost use Rattle.upid.specs.Upid.{read_of, list_of, listed};
 ghost use Rattle.upid.specs.Private.{Listable};
 
 use crate::plain::{check_plain, reported};
-use crate::{MAX_PARTS, Part, PartList, Refusal, UPID_MID, UpidRead};
+use crate::{MAX_PARTS, Part, PartList, Refusal, UPID_MID};
 use table::numbers::size;
 
 // A payload, and where it is a MID each of its parts in byte order: the first refusal ends the walk. `start` is where it lies in the top UPID.
-pub(crate) fn check_payload(upid_type: u8, s: &[u8], start: usize) -> UpidRead
+pub(crate) fn check_payload(upid_type: u8, s: &[u8], start: usize) -> Result<u8, Refusal>
     requires { start + length s.now ≤ 255 }
     ensures { result ≡ read_of upid_type start s.now }
 {
     if upid_type != UPID_MID {
         return check_plain(upid_type, s, start);
     }
-    let mut answer = UpidRead::Fine(UPID_MID);
     let mut at: usize = 0;
+    // Each part says where the next one starts, so this counts no index.
     'walk: while at < s.len() {
         let left = s.len() - at;
         if left < 2 {
-            answer = UpidRead::Refused(Refusal::NotEnoughData {
+            return Err(Refusal::NotEnoughData {
                 expected: 1,
                 actual: 0,
             });
-            break 'walk;
         }
         let k = s[at];
         let n = size(s[at + 1]);
         let body = at + 2;
         let present = s.len() - body;
         if present < n {
-            answer = UpidRead::Refused(Refusal::NotEnoughData {
+            return Err(Refusal::NotEnoughData {
                 expected: n,
                 actual: present,
             });
-            break 'walk;
         }
         let end = body + n;
-        let inner = check_payload(k, &s[body..end], start + body);
-        match inner {
-            UpidRead::Refused(r) => {
-                answer = UpidRead::Refused(r);
-                break 'walk;
-            }
-            UpidRead::Fine(_) => {}
-        }
+        check_payload(k, &s[body..end], start + body)?;
         at = end;
     }
-    answer
+    Ok(UPID_MID)
 }
 
 // No parts.

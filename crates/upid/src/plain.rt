@@ -2,8 +2,8 @@
 ghost use Rattle.std.specs.Prelude.{◌≡◌};
 ghost use Rattle.upid.specs.Upid.{length_of, is_text, reported_of, plain_of};
 
+use crate::Refusal;
 use crate::text::is_text;
-use crate::{Refusal, UpidRead};
 use table::View;
 
 // The bytes that a type must have, 0 where any number will do.
@@ -34,19 +34,19 @@ pub(crate) fn reported(upid_type: u8) -> u8
 }
 
 // A payload of a type other than MID. `start` is where it lies in the top UPID.
-pub(crate) fn check_plain(upid_type: u8, s: &[u8], start: usize) -> UpidRead
+pub(crate) fn check_plain(upid_type: u8, s: &[u8], start: usize) -> Result<u8, Refusal>
     ensures { result ≡ plain_of upid_type start s.now }
 {
     if upid_type == 0 {
-        return UpidRead::Refused(Refusal::UpidLengthTypeMismatch);
+        return Err(Refusal::UpidLengthTypeMismatch);
     }
     let expected = fixed(upid_type);
     if expected == 0 {
-        return UpidRead::Fine(reported(upid_type));
+        return Ok(reported(upid_type));
     }
     let actual = s.len();
     if actual != expected {
-        return UpidRead::Refused(Refusal::InvalidUpidLength {
+        return Err(Refusal::InvalidUpidLength {
             upid_type,
             expected,
             actual,
@@ -54,9 +54,9 @@ pub(crate) fn check_plain(upid_type: u8, s: &[u8], start: usize) -> UpidRead
     }
     if has_text(upid_type) {
         if is_text(s) {
-            return UpidRead::Fine(reported(upid_type));
+            return Ok(reported(upid_type));
         }
-        return UpidRead::Refused(Refusal::InvalidUpidContent {
+        return Err(Refusal::InvalidUpidContent {
             upid_type,
             bytes: View {
                 at: start,
@@ -64,5 +64,5 @@ pub(crate) fn check_plain(upid_type: u8, s: &[u8], start: usize) -> UpidRead
             },
         });
     }
-    UpidRead::Fine(reported(upid_type))
+    Ok(reported(upid_type))
 }

@@ -60,14 +60,7 @@ fn next(t: Stand, b: u8) -> Stand
 fn ascii(s: &[u8]) -> usize
     ensures { (result ≤ length s.now) × (foldl step (wants []) s.now ≡ foldl step (wants []) (drop result s.now)) }
 {
-    let mut i: usize = 0;
-    while i < s.len() {
-        if 0x7F < s[i] {
-            return i;
-        }
-        i += 1;
-    }
-    i
+    s.iter().position(|&b| 0x7F < b).unwrap_or(s.len())
 }
 
 // Whether the bytes are UTF-8.
@@ -75,11 +68,8 @@ pub fn is_text(s: &[u8]) -> bool
     ensures { result ≡ text_of s.now }
 {
     let mut t = Stand::Between;
-    let mut i = ascii(s);
-    while i < s.len() {
-        let b = s[i];
+    for &b in &s[ascii(s)..] {
         t = next(t, b);
-        i += 1;
     }
     match t {
         Stand::Between => true,

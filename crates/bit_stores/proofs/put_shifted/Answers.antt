@@ -1,42 +1,24 @@
--- `bit_stores::put_shifted`: the first i bytes are stored.
-use mathlib.Core.Path.{◌≡◌, ap, ◌∙◌}
-use native.Mathlib.Omega.{arith}
-use lib.ListN.{length, take}
-use lib.Seq.{take_all}
+-- `bit_stores::put_shifted`: the bytes that are behind are stored.
+use Rattle.std.proofs.Common.{length, take, ap, ◌∙◌, take_all, arith}
 use Rattle.table.specs.Bits.{bits_of}
 use Rattle.table.specs.Cursor.{place}
 use Rattle.bit_stores.proofs.Penned.{length_penned}
 use Rattle.bit_stores.proofs.Tables.{pens_nil, pens_byte, pens_same}
 use Rattle.bit_stores.proofs.put_shifted.Goals as goal
 
-pub loop-i-init : goal.loop-i-init
-loop-i-init c =
-    (omega arith, pens_nil c.args.out.now c.args.c c.requires.0 c.requires.1 (omega (arith, c.requires.2)))
+pub loop-b-init : goal.loop-b-init
+loop-b-init c = pens_nil c.args.out.now c.args.c c.requires.0 c.requires.1 (omega (arith, c.requires.2))
 
-pub bounds-src-i : goal.bounds-src-i
-bounds-src-i c = omega arith
-
-pub wide-requires : goal.wide-requires
-wide-requires c = tt
-
-pub put_bits-next-requires : goal.put_bits-next-requires
-put_bits-next-requires c = tt
-
-pub overflow_add-i : goal.overflow_add-i
-overflow_add-i c = omega arith
-
-pub loop-i-smaller : goal.loop-i-smaller
-loop-i-smaller c = omega arith
-
-pub loop-i-preserved : goal.loop-i-preserved
-loop-i-preserved c =
-    let stored = pens_byte c.args.out.now c.args.c c.args.src.now c.loop-i.i c.wide.result c.loop-i.out c.loop-i.next _ _
-    (omega arith) c.wide.ensures.0 c.requires.2 c.loop-i.invariant.1 c.put_bits-next.ensures in
-    (omega arith, stored)
+pub loop-b-preserved : goal.loop-b-preserved
+loop-b-preserved c =
+    pens_byte c.args.out.now c.args.c c.args.src.now c.loop-b.b-index c.wide.result c.loop-b.out c.loop-b.next _ _
+    (omega arith) c.wide.ensures.0 c.requires.2 c.loop-b.invariant c.put_bits-next.ensures
 
 pub shape_of-out : goal.shape_of-out
-shape_of-out c = (let it : length c.loop-i.out ≡ length c.args.out.now = let a = c.args in ap length c.loop-i.invariant.1.bytes ∙ length_penned a.out.now (place a.c) (bits_of (take c.loop-i.i a.src.now)) in it)
+shape_of-out c =
+    let a = c.args in
+    ap length c.loop-b.invariant.bytes ∙ length_penned a.out.now (place a.c) (bits_of (take c.loop-b.b-index a.src.now))
 
 pub returns : goal.returns
 returns c =
-    pens_same c.args.out.now c.args.c _ _ c.loop-i.out c.loop-i.next (ap bits_of (take_all c.loop-i.i c.args.src.now (omega arith))) c.loop-i.invariant.1
+    pens_same c.args.out.now c.args.c _ _ c.loop-b.out c.loop-b.next (ap bits_of (take_all c.loop-b.b-index c.args.src.now (omega arith))) c.loop-b.invariant

@@ -2,10 +2,10 @@
 use Rattle.c_adjust.specs.FlatAdjust.{flat_adjustment}
 use Rattle.c_adjust.proofs.flat_adjustment.Goals as goal
 
-pub returns-in-Is : goal.returns-in-Is
+pub returns-in-Ok : goal.returns-in-Ok
 unfolding flat_adjustment
-returns-in-Is c = rw c.in-Is.is
+returns-in-Ok c = rw c.in-Ok.is
 
-pub returns-in-TooLarge : goal.returns-in-TooLarge
+pub returns-in-Err : goal.returns-in-Err
 unfolding flat_adjustment
-returns-in-TooLarge c = rw c.in-TooLarge.is
+returns-in-Err c = rw c.in-Err.is

@@ -4,16 +4,16 @@ use Rattle.c_adjust.proofs.flat_moved.Goals as goal
 
 pub returns-in-Immediate : goal.returns-in-Immediate
 unfolding flat_moved
-returns-in-Immediate c = rw (c.in-Is.is, c.in-Immediate.is)
+returns-in-Immediate c = rw (c.in-Ok.is, c.in-Immediate.is)
 
 pub returns-in-Unspecified : goal.returns-in-Unspecified
 unfolding flat_moved
-returns-in-Unspecified c = rw (c.in-Is.is, c.in-Unspecified.is)
+returns-in-Unspecified c = rw (c.in-Ok.is, c.in-Unspecified.is)
 
 pub returns-in-At : goal.returns-in-At
 unfolding flat_moved
-returns-in-At c = rw (c.in-Is.is, c.in-At.is)
+returns-in-At c = rw (c.in-Ok.is, c.in-At.is)
 
-pub returns-in-TooLarge : goal.returns-in-TooLarge
+pub returns-in-Err : goal.returns-in-Err
 unfolding flat_moved
-returns-in-TooLarge c = rw c.in-TooLarge.is
+returns-in-Err c = rw c.in-Err.is

@@ -1,17 +1,20 @@
-use mathlib.Core.Path.{◌∙◌, ap}
-use borrow.Author.Tests.{lt-ltb, le-ltb}
-use Rattle.channels.specs.declared.SharedBoard.{SharedBoard}
-use Rattle.c_board.specs.Words.{stored}
+use Rattle.std.proofs.Common.{lt-ltb}
+use borrow.Author.Tests.{le-ltb}
 use Rattle.c_board.specs.Lent.{emptied}
 use Rattle.c_board.proofs.empty_words.Goals as goal
 
--- src/lib.rt:144:9
-pub returns-then-words-lt-BOARD_WORDS : goal.returns-then-words-lt-BOARD_WORDS
+pub returns-then-words-lt-BOARD_WORDS-clause-answer : goal.returns-then-words-lt-BOARD_WORDS-clause-answer
 unfolding emptied
-returns-then-words-lt-BOARD_WORDS c = let e = lt-ltb _ 66 c.if-words-lt-BOARD_WORDS.true in record { answer = rw e c.too_short.ensures; words = rw e }
+returns-then-words-lt-BOARD_WORDS-clause-answer c = let e = lt-ltb _ 66 c.if-words-lt-BOARD_WORDS.true in rw e c.too_short.ensures
 
--- src/lib.rt:139:1
-pub returns : goal.returns
+pub returns-then-words-lt-BOARD_WORDS-clause-words : goal.returns-then-words-lt-BOARD_WORDS-clause-words
 unfolding emptied
-returns c =
-    let e = le-ltb _ 66 c.if-words-lt-BOARD_WORDS.false in record { answer = rw e; words = rw e (c.put_board.ensures ∙ ap (λ (b : SharedBoard). stored b c.args.words.now) c.empty.ensures) }
+returns-then-words-lt-BOARD_WORDS-clause-words c = let e = lt-ltb _ 66 c.if-words-lt-BOARD_WORDS.true in rw e
+
+pub returns-clause-answer : goal.returns-clause-answer
+unfolding emptied
+returns-clause-answer c = let e = le-ltb _ 66 c.if-words-lt-BOARD_WORDS.false in rw e
+
+pub returns-clause-words : goal.returns-clause-words
+unfolding emptied
+returns-clause-words c = let e = le-ltb _ 66 c.if-words-lt-BOARD_WORDS.false in rw (e, ← c.empty.ensures) c.put_board.ensures

@@ -1,11 +1,13 @@
-use mathlib.Core.Path.{refl}
-use borrow.Author.Tests.{eq-eqb, ne_eqb}
+use Rattle.std.proofs.Common.{sym, ◌∙◌}
+use Rattle.c_board.specs.Lent.{flat_reply}
+use Rattle.c_board.proofs.Words.{accepted, refused}
 use Rattle.c_board.proofs.settle.Goals as goal
+use Rattle.c_board.proofs.settle.Goals.{then-is_ok, else-is_ok}
 
--- src/lib.rt:128:9
-pub returns-then-answer-eq0 : goal.returns-then-answer-eq0
-returns-then-answer-eq0 c = record { answer = refl; words = rw (eq-eqb _ 0 c.if-answer-eq0.true) c.put_board.ensures }
-
--- src/lib.rt:121:1
-pub returns : goal.returns
-returns c = record { answer = refl; words = rw (ne_eqb _ 0 c.if-answer-eq0.false) }
+pub returns-clause-words : goal.returns-clause-words
+unfolding flat_reply
+returns-clause-words c =
+    elim c.if-is_ok.branch [
+      | then-is_ok w ↦ rw (accepted c.args.reply (sym w.if-is_ok.ensures.value)) (w.words-is ∙ w.put_board.ensures)
+      | else-is_ok w ↦ rw (refused c.args.reply (sym w.if-is_ok.ensures.value)) w.words-is
+    ]

@@ -1,12 +1,8 @@
 -- `crc::take_byte` meets its contract: the register, taken on over the bits that are left, is that of all eight.
-use mathlib.Core.Path.{◌≡◌}
-use Prim.Native.Nat.{◌≤◌}
+use Rattle.std.proofs.Common.{◌≡◌}
 use Rattle.crc.specs.Crc.{crc_bits}
 use Rattle.table.specs.Bits.{bits_of_num}
 use Rattle.crc.proofs.take_byte.Given as goal
 
 abbrev pub invariant-loop-left : goal.invariant-loop-left
-invariant-loop-left l = (l.left ≤ 8) × (crc_bits l.r (bits_of_num l.left l.byte) ≡ crc_bits l.z (bits_of_num 8 l.byte))
-
-abbrev pub decreases-loop-left : goal.decreases-loop-left
-decreases-loop-left l = l.left
+invariant-loop-left l = crc_bits l.r (bits_of_num l.left l.byte) ≡ crc_bits l.z (bits_of_num 8 l.byte)

@@ -17,10 +17,8 @@ taken_lin : Linear taken
 taken_lin = after_lin (turns_lin 32) reversed_lin
 
 -- a byte with n zeros behind it, from its row
-row : (n x r : ℕ) → x < 256 → x * 2 ^ n < 2 ^ 32 → r ≡ reversed (turns (n + 32) ((256 + x) % 256)) → r ≡ taken (x * 2 ^ n)
-row n x r b l e =
-    let m : (256 + x) % 256 ≡ x = omega arith in
-    e ∙ ap (λ (k : ℕ). reversed (turns (n + 32) k)) m ∙ ap reversed (turns_add n 32 x ∙ ap (turns 32) (turns_low n x l))
+row : (n x r : ℕ) → x * 2 ^ n < 2 ^ 32 → r ≡ reversed (turns (n + 32) x) → r ≡ taken (x * 2 ^ n)
+row n x r l e = e ∙ ap reversed (turns_add n 32 x ∙ ap (turns 32) (turns_low n x l))
 
 four : (p q r s : ℕ) → bit_xor (bit_xor (taken p) (taken q)) (bit_xor (taken r) (taken s)) ≡ taken (bit_xor (bit_xor p q) (bit_xor r s))
 four p q r s = sym (taken_lin.at (bit_xor p q) (bit_xor r s) ∙ ap₂ bit_xor (taken_lin.at p q) (taken_lin.at r s))
@@ -34,9 +32,7 @@ pub returns : goal.returns
 returns c =
     let y : ℕ = c.args.y in
     ap₂ bit_xor
-    (ap₂ bit_xor (row 24 (y % 256) _ (omega arith) (omega arith) c.turned_56.ensures)
-    (row 16 (y / 2 ^ 8 % 256) _ (omega arith) (omega arith) c.turned_48.ensures))
-    (ap₂ bit_xor (row 8 (y / 2 ^ 16 % 256) _ (omega arith) (omega arith) c.turned_40.ensures)
-    (row 0 (y / 2 ^ 24 % 256) _ (omega arith) (omega arith) c.turned_32.ensures))
+    (ap₂ bit_xor (row 24 (y % 256) _ (omega arith) c.turned.ensures) (row 16 (y / 2 ^ 8 % 256) _ (omega arith) c.turned-2.ensures))
+    (ap₂ bit_xor (row 8 (y / 2 ^ 16 % 256) _ (omega arith) c.turned-3.ensures) (row 0 (y / 2 ^ 24 % 256) _ (omega arith) c.turned-4.ensures))
     ∙ four (y % 256 * 2 ^ 24) (y / 2 ^ 8 % 256 * 2 ^ 16) (y / 2 ^ 16 % 256 * 2 ^ 8) (y / 2 ^ 24 % 256 * 2 ^ 0)
     ∙ ap taken (by_bytes y)

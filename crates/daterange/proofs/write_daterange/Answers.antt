@@ -11,13 +11,13 @@ cue_for-requires c = tt
 pub write_line-requires : goal.write_line-requires
 write_line-requires c = tt
 
-pub returns-in-Is : goal.returns-in-Is
-returns-in-Is c =
-    let a = c.args in record { answer = (written_line a.section.now a.id.now a.date.now a.target.now _ c.read_section.ensures _ _ _ _ c.in-Is.is c.cue_for.ensures c.write_line.ensures.answer c.write_line.ensures.bytes).0; bytes = (written_line a.section.now a.id.now a.date.now a.target.now _ c.read_section.ensures _ _ _ _ c.in-Is.is c.cue_for.ensures c.write_line.ensures.answer c.write_line.ensures.bytes).1 }
+pub returns-in-Ok : goal.returns-in-Ok
+returns-in-Ok c =
+    let a = c.args in record { answer = (written_line a.section.now a.id.now a.date.now a.target.now _ c.read_section.ensures _ _ _ _ c.in-Ok.is c.cue_for.ensures c.write_line.ensures.answer c.write_line.ensures.bytes).0; bytes = (written_line a.section.now a.id.now a.date.now a.target.now _ c.read_section.ensures _ _ _ _ c.in-Ok.is c.cue_for.ensures c.write_line.ensures.answer c.write_line.ensures.bytes).1 }
 
 pub number-requires : goal.number-requires
 number-requires c = tt
 
-pub returns-in-Refused : goal.returns-in-Refused
-returns-in-Refused c =
-    let a = c.args in record { answer = (refused_line a.section.now a.id.now a.date.now a.target.now _ c.read_section.ensures _ _ c.in-Refused.is c.number.ensures).0; bytes = (refused_line a.section.now a.id.now a.date.now a.target.now _ c.read_section.ensures _ _ c.in-Refused.is c.number.ensures).1 }
+pub returns-in-Err : goal.returns-in-Err
+returns-in-Err c =
+    let a = c.args in record { answer = (refused_line a.section.now a.id.now a.date.now a.target.now _ c.read_section.ensures _ _ c.in-Err.is c.number.ensures).0; bytes = (refused_line a.section.now a.id.now a.date.now a.target.now _ c.read_section.ensures _ _ c.in-Err.is c.number.ensures).1 }

@@ -1,9 +1,6 @@
 -- Each step goes forward in the loop.
-use Rattle.std.proofs.Common.{length, ◌-◌, ◌≤◌}
+use Rattle.std.proofs.Common.{length, ◌-◌}
 use Rattle.loop_listing.proofs.print_items.Given as goal
-
-abbrev pub invariant-loop-offset : goal.invariant-loop-offset
-invariant-loop-offset g l = length l.bytes ≤ 4076
 
 abbrev pub decreases-loop-offset : goal.decreases-loop-offset
 decreases-loop-offset g l = length l.bytes - l.offset

@@ -2,10 +2,10 @@
 use Rattle.relabel_upid.specs.Relabel.{taken}
 use Rattle.relabel_upid.proofs.is_fine.Goals as goal
 
-pub returns-in-Fine : goal.returns-in-Fine
+pub returns-in-Ok : goal.returns-in-Ok
 unfolding taken
-returns-in-Fine c = rw c.in-Fine.is
+returns-in-Ok c = rw c.in-Ok.is
 
-pub returns-in-Refused : goal.returns-in-Refused
+pub returns-in-Err : goal.returns-in-Err
 unfolding taken
-returns-in-Refused c = rw c.in-Refused.is
+returns-in-Err c = rw c.in-Err.is

@@ -1,19 +1,13 @@
 -- `relabel_upid::mend` meets its contract. The loop's invariant: the parts that are still to come from the place on, and what is left of them, mended in the
 -- target as it is now, gives what all of them give in the target as it was.
-use Prim.Native.Nat.{◌-◌, ◌≤◌}
-use mathlib.Core.Path.{◌≡◌}
-use lib.ListN.{length, take, drop}
+use Rattle.std.proofs.Common.{◌≡◌, length, take, drop}
 use Rattle.relabel_upid.specs.Private.{heads, nth}
 use Rattle.relabel_upid.specs.Relabel.{mended}
 use Rattle.relabel_upid.proofs.Heads.{Rest}
 use Rattle.relabel_upid.proofs.mend.Given as goal
 
-abbrev pub invariant-loop-ahead : goal.invariant-loop-ahead
-invariant-loop-ahead l =
+abbrev pub invariant-loop : goal.invariant-loop
+invariant-loop l =
     (length l.target ≡ length l.initial.target)
-    × (l.ahead ≤ l.i)
-    × Rest l.at (drop l.at l.upid) (drop (l.i - l.ahead) (heads l.upid))
-    × (mended (nth l.upid l.i) l.n (drop (l.i - l.ahead) (take l.i (heads l.upid))) l.target ≡ mended (nth l.upid l.i) l.n (take l.i (heads l.upid)) l.initial.target)
-
-abbrev pub decreases-loop-ahead : goal.decreases-loop-ahead
-decreases-loop-ahead l = l.ahead
+    × Rest l.at (drop l.at l.upid) (drop l.counter (heads l.upid))
+    × (mended (nth l.upid l.i) l.n (drop l.counter (take l.i (heads l.upid))) l.target ≡ mended (nth l.upid l.i) l.n (take l.i (heads l.upid)) l.initial.target)

@@ -6,13 +6,13 @@ use lib.ListN.{length}
 use native.Mathlib.Omega.{arith}
 use borrow.Author.Tests.{not-true, not-false}
 use Rattle.bit_stores.proofs.Writes.{refused_answer, short_answer, wrote_answer}
-use Rattle.bit_stores.specs.declared.Written.{Written}
 use Rattle.upid.specs.Upid.{check_of}
 use Rattle.relabel_upid.specs.Private.{nth}
 use Rattle.relabel_upid.specs.Relabel.{taken, up_to}
 use Rattle.relabel_upid.proofs.Turns.{up_to_over, up_to_fits}
 use Rattle.relabel_upid.proofs.Stores.{no_mid, no_reading, walkable, made_none, part_inside, part_fits, made_long, made_unfit, made_is, storable, size_is}
 use Rattle.relabel_upid.proofs.relabel_part.Goals as goal
+use Rattle.std.proofs.Common.{Ok}
 
 pub returns-then-upid_type-ne-UPID_MID : goal.returns-then-upid_type-ne-UPID_MID
 returns-then-upid_type-ne-UPID_MID c =
@@ -121,4 +121,4 @@ returns c =
     let long = size_is a.upid_type a.new_type a.i a.upid.now a.new.now mid ok t.0 h in
     let is_made = made_is a.upid_type a.new_type a.i a.upid.now a.new.now mid ok t.0 h (sym c.is_taken.ensures ∙ not-false _ c.if-not-is_taken.false-raw) in
     let w = wrote_answer _ a.target.now _ (up_to_fits a.limit _ _ is_made (omega (arith, long, c.if-limit-then.false, c.size.ensures.0, t.2))) (omega (arith, long, c.if-target-then.false, c.size.ensures.0, t.2)) in
-    (ap Written.Wrote (omega (arith, long, c.size.ensures.0, t.2)) ∙ w.0, c.store_part.ensures ∙ w.1)
+    (ap Ok (omega (arith, long, c.size.ensures.0, t.2)) ∙ w.0, c.store_part.ensures ∙ w.1)

@@ -9,4 +9,4 @@ overflow_add-result-2 c = omega (arith, (fitting c.args.header c.requires).adjus
 
 pub returns : goal.returns
 unfolding first_number
-returns c = rw (c.wide.ensures.0, c.wide-2.ensures.0, c.id.ensures)
+returns c = rw (c.wide.ensures.0, c.wide-2.ensures.0, c.into.ensures)

@@ -3,8 +3,8 @@ use native.Mathlib.Omega.{arith}
 use Rattle.section_writer.proofs.Stored.{is_fitting, not_fitting}
 use Rattle.section_writer.proofs.numbers_fit.Goals as goal
 
-pub returns-then-id-gt63 : goal.returns-then-id-gt63
-returns-then-id-gt63 c = not_fitting c.args.header (λ f. omega (arith, f.algorithm, c.id.ensures))
+pub returns-then-from-gt63 : goal.returns-then-from-gt63
+returns-then-from-gt63 c = not_fitting c.args.header (λ f. omega (arith, f.algorithm, c.from.ensures))
 
 pub returns-then-header-gt8589934591 : goal.returns-then-header-gt8589934591
 returns-then-header-gt8589934591 c = not_fitting c.args.header (λ f. omega (arith, f.adjustment))
@@ -15,4 +15,4 @@ returns-then-header-gt4095 c = not_fitting c.args.header (λ f. omega (arith, f.
 pub returns : goal.returns
 returns c =
     is_fitting c.args.header
-    (record { version = omega arith; algorithm = omega (arith, c.id.ensures); adjustment = omega arith; index = omega arith; tiers = omega arith })
+    (record { version = omega arith; algorithm = omega (arith, c.from.ensures); adjustment = omega arith; index = omega arith; tiers = omega arith })

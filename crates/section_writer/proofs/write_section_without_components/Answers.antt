@@ -13,28 +13,28 @@ use Rattle.section_writer.proofs.write_section_without_components.Goals as goal
 pub put_head-requires : goal.put_head-requires
 put_head-requires c =
     let a = c.args in
-    let g = allowed a.header a.command (array []) a.lent.now a.descriptors.now c.measure_without_components-measured.result c.measure_without_components-measured.ensures.0 a.target.now _ _ c.answer_section-outcome.ensures c.in-Wrote.is in
+    let g = allowed a.header a.command (array []) a.lent.now a.descriptors.now c.measure_without_components-measured.result c.measure_without_components-measured.ensures.0 a.target.now _ _ c.answer_section-outcome.ensures c.in-Ok.is in
     (g.0, g.1, g.2, omega (arith, g.3))
 
 pub overflow_add-size : goal.overflow_add-size
 overflow_add-size c =
     let a = c.args in
-    let g = allowed a.header a.command (array []) a.lent.now a.descriptors.now c.measure_without_components-measured.result c.measure_without_components-measured.ensures.0 a.target.now _ _ c.answer_section-outcome.ensures c.in-Wrote.is in
+    let g = allowed a.header a.command (array []) a.lent.now a.descriptors.now c.measure_without_components-measured.result c.measure_without_components-measured.ensures.0 a.target.now _ _ c.answer_section-outcome.ensures c.in-Ok.is in
     omega (arith, g.2)
 
 pub put_tail-requires : goal.put_tail-requires
 put_tail-requires c =
     let a = c.args in
-    let g = allowed a.header a.command (array []) a.lent.now a.descriptors.now c.measure_without_components-measured.result c.measure_without_components-measured.ensures.0 a.target.now _ _ c.answer_section-outcome.ensures c.in-Wrote.is in
+    let g = allowed a.header a.command (array []) a.lent.now a.descriptors.now c.measure_without_components-measured.result c.measure_without_components-measured.ensures.0 a.target.now _ _ c.answer_section-outcome.ensures c.in-Ok.is in
     let n = kept_length a.target.now _ _ _ _ _ _ c.put_head.ensures c.put_without_components.ensures in
     (omega (arith, g.2), omega (arith, g.3, n))
 
-pub returns-in-Wrote : goal.returns-in-Wrote
-returns-in-Wrote c =
+pub returns-in-Ok : goal.returns-in-Ok
+returns-in-Ok c =
     let is : let a = c.args in c.answer_section-outcome.result ≡ answer_of (section_made a.header (command_made a.command (array []) a.lent.now) (type_of a.command) a.descriptors.now) a.target.now = let a = c.args in c.answer_section-outcome.ensures ∙ section_answer a.header a.command (array []) a.lent.now a.descriptors.now c.measure_without_components-measured.result c.measure_without_components-measured.ensures.0 a.target.now in
-    let a = c.args in record { answer = is; bytes = wrote_section a.header a.command (array []) a.lent.now a.descriptors.now c.measure_without_components-measured.result c.measure_without_components-measured.ensures.0 a.target.now _ _ c.answer_section-outcome.ensures c.in-Wrote.is _ _ _ _ c.type_of.ensures c.put_head.ensures c.put_without_components.ensures c.put_tail.ensures }
+    let a = c.args in record { answer = is; bytes = wrote_section a.header a.command (array []) a.lent.now a.descriptors.now c.measure_without_components-measured.result c.measure_without_components-measured.ensures.0 a.target.now _ _ c.answer_section-outcome.ensures c.in-Ok.is _ _ _ _ c.type_of.ensures c.put_head.ensures c.put_without_components.ensures c.put_tail.ensures }
 
-pub returns-in-Refused : goal.returns-in-Refused
-returns-in-Refused c =
+pub returns-in-Err : goal.returns-in-Err
+returns-in-Err c =
     let is : let a = c.args in c.answer_section-outcome.result ≡ answer_of (section_made a.header (command_made a.command (array []) a.lent.now) (type_of a.command) a.descriptors.now) a.target.now = let a = c.args in c.answer_section-outcome.ensures ∙ section_answer a.header a.command (array []) a.lent.now a.descriptors.now c.measure_without_components-measured.result c.measure_without_components-measured.ensures.0 a.target.now in
-    let a = c.args in record { answer = is; bytes = refused_later (section_made a.header (command_made a.command (array []) a.lent.now) (type_of a.command) a.descriptors.now) a.target.now _ (sym is ∙ c.in-Refused.is) }
+    let a = c.args in record { answer = is; bytes = refused_later (section_made a.header (command_made a.command (array []) a.lent.now) (type_of a.command) a.descriptors.now) a.target.now _ (sym is ∙ c.in-Err.is) }

@@ -1,32 +1,7 @@
--- `attribute_list::bytes::same_bytes`: what is left is the same exactly where all is.
-use mathlib.Core.Path.{refl, sym, ◌∙◌}
-use native.Mathlib.Omega.{arith}
-use Rattle.attribute_list.proofs.Runs.{same_length, same_more, same_not, same_end}
+-- `attribute_list::bytes::same_bytes`: std's test.
+use Rattle.std.proofs.Common.{◌∙◌}
+use Rattle.attribute_list.proofs.Runs.{same_is}
 use Rattle.attribute_list.proofs.bytes.same_bytes.Goals as goal
 
-pub returns-then-a-b : goal.returns-then-a-b
-returns-then-a-b c = sym (same_length _ _ c.if-a-b.true)
-
-pub loop-i-init : goal.loop-i-init
-loop-i-init c = refl
-
-pub bounds-a-i : goal.bounds-a-i
-bounds-a-i c = omega arith
-
-pub bounds-b-i : goal.bounds-b-i
-bounds-b-i c = omega arith
-
-pub returns-then-a-i : goal.returns-then-a-i
-returns-then-a-i c = sym (c.loop-i.invariant ∙ same_not _ _ _ c.loop-i-test.true (omega arith) c.if-a-i.true)
-
-pub overflow_add-i : goal.overflow_add-i
-overflow_add-i c = omega arith
-
-pub loop-i-smaller : goal.loop-i-smaller
-loop-i-smaller c = omega arith
-
-pub loop-i-preserved : goal.loop-i-preserved
-loop-i-preserved c = c.loop-i.invariant ∙ same_more _ _ _ c.loop-i-test.true (omega arith) c.if-a-i.false
-
 pub returns : goal.returns
-returns c = sym (c.loop-i.invariant ∙ same_end _ _ _ c.loop-i-test.false (omega arith))
+returns c = c.eq.ensures ∙ same_is _ _

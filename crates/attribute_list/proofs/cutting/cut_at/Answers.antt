@@ -1,19 +1,9 @@
--- `attribute_list::cutting::cut_at`, test by test.
-use mathlib.Core.Path.{sym, ◌∙◌}
-use Rattle.attribute_list.proofs.Cuts.{cut_nameless, cut_short, cut_other, cut_quoted, cut_plain}
+-- `attribute_list::cutting::cut_at`: the attribute lies in the line.
+use Rattle.std.proofs.Common.{◌∙◌, ap}
+use Rattle.attribute_list.specs.Cutting.{cut_of}
+use Rattle.attribute_list.proofs.Completes.{IfSome-cut_of}
 use Rattle.attribute_list.proofs.cutting.cut_at.Goals as goal
 
-pub returns-then-equals-at : goal.returns-then-equals-at
-returns-then-equals-at c = cut_nameless _ _ _ c.past-equals.ensures c.if-equals-at.true
-
-pub returns-then-line-equals : goal.returns-then-line-equals
-returns-then-line-equals c = cut_short _ _ _ c.past-equals.ensures c.if-equals-at.false c.if-line-equals.true
-
-pub returns-then-line-equals-ne61 : goal.returns-then-line-equals-ne61
-returns-then-line-equals-ne61 c = cut_other _ _ _ c.past-equals.ensures c.if-equals-at.false c.if-line-equals-ne61.true
-
-pub returns-then-byte_at-eq34 : goal.returns-then-byte_at-eq34
-returns-then-byte_at-eq34 c = c.quoted_at.ensures ∙ cut_quoted _ _ _ c.past-equals.ensures c.if-equals-at.false c.if-line-equals-ne61.false (sym c.byte_at.ensures ∙ c.if-byte_at-eq34.true)
-
-pub returns : goal.returns
-returns c = c.plain_at.ensures ∙ cut_plain _ _ _ c.past-equals.ensures c.if-equals-at.false c.if-line-equals-ne61.false (λ e. c.if-byte_at-eq34.false (c.byte_at.ensures ∙ e))
+pub returns-clause-within : goal.returns-clause-within
+returns-clause-within c =
+    IfSome-cut_of c.args.line.now c.args.at c.cut_off.result (c.cut_off.ensures ∙ ap cut_of c.from.ensures)

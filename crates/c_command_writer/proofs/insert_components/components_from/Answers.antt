@@ -1,10 +1,10 @@
 -- `c_command_writer::insert_components::components_from`: the first places stand in the array.
-use Prim.Native.Nat.{◌*◌, ◌≤◌}
+use Prim.Native.Nat.{◌*◌}
 use mathlib.Core.List.{[]}
 use mathlib.Core.Path.{ap, sym, ◌∙◌}
 use native.Mathlib.Omega.{arith}
 use lib.ListN.{length-set}
-use lib.Seq.{paste-zero, drop-drop}
+use lib.Seq.{drop-drop}
 use Rattle.command.specs.Command.{array}
 use Rattle.command.specs.Insert.{blank}
 use Rattle.command.proofs.Filling.{blank_length}
@@ -16,47 +16,16 @@ use Rattle.c_command_writer.proofs.Words.{places_length, places_at}
 use Rattle.c_command_writer.proofs.Components.{filled_array}
 use Rattle.c_command_writer.proofs.insert_components.components_from.Goals as goal
 
-pub blanks-out-requires : goal.blanks-out-requires
-blanks-out-requires c = omega arith
-
-pub loop-i-init : goal.loop-i-init
-loop-i-init c = (omega arith, rw c.blanks-out.ensures blank_length, c.blanks-out.ensures ∙ paste-zero (array []) 0 (places_of component_from 3 c.args.count (insert_components_in c.args.words.now)))
-
-pub overflow_mul-i : goal.overflow_mul-i
-overflow_mul-i c = omega arith
-
-pub overflow_add-i : goal.overflow_add-i
-overflow_add-i c = omega arith
-
-pub words_from-requires : goal.words_from-requires
-words_from-requires c = omega arith
-
-pub component_from-requires : goal.component_from-requires
-component_from-requires c = omega arith
-
-pub offset_bounds-out-i : goal.offset_bounds-out-i
-offset_bounds-out-i c = omega arith
-
-pub bounds-out-i : goal.bounds-out-i
-bounds-out-i c = omega arith
-
-pub overflow_add-i-in-loop-i : goal.overflow_add-i-in-loop-i
-overflow_add-i-in-loop-i c = omega arith
-
-pub loop-i-smaller : goal.loop-i-smaller
-loop-i-smaller c = omega arith
-
 pub loop-i-preserved : goal.loop-i-preserved
 loop-i-preserved c =
     let a = c.args in
     let s = places_of component_from 3 a.count (insert_components_in a.words.now) in
-    let g : c.loop-i.i ≤ 254 = omega arith in
     let p = drop-drop (c.loop-i.i * 3) 2 a.words.now in
     let e = c.component_from.ensures ∙ ap component_from (c.words_from.ensures ∙ sym p) ∙ places_at component_from 3 a.count (insert_components_in a.words.now) c.loop-i.i blank (omega arith) in
-    (omega arith, length-set c.loop-i.out c.loop-i.i _ ∙ c.loop-i.invariant.1, filled_turn (array []) s c.loop-i.out c.loop-i.i _ blank (omega (arith, blank_length)) (omega (arith, places_length component_from 3 a.count (insert_components_in a.words.now))) e c.loop-i.invariant.2)
+    (length-set c.loop-i.out c.loop-i.i _ ∙ c.loop-i.invariant.0, filled_turn (array []) s c.loop-i.out c.loop-i.i _ blank (omega (arith, blank_length)) (omega (arith, places_length component_from 3 a.count (insert_components_in a.words.now))) e c.loop-i.invariant.1)
 
 pub returns : goal.returns
 unfolding components_from
 returns c =
     let a = c.args in
-    filled_array c.loop-i.out (places_of component_from 3 a.count (insert_components_in a.words.now)) c.loop-i.i a.count (places_length component_from 3 a.count (insert_components_in a.words.now)) (omega arith) c.loop-i.invariant.2
+    filled_array c.loop-i.out (places_of component_from 3 a.count (insert_components_in a.words.now)) c.loop-i.i a.count (places_length component_from 3 a.count (insert_components_in a.words.now)) (omega arith) c.loop-i.invariant.1

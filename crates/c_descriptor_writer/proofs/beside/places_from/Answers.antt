@@ -14,49 +14,22 @@ use Rattle.c_descriptor_writer.specs.ItemWords.{places_in}
 use Rattle.c_command_writer.proofs.Words.{places_length, places_at, filled_front}
 use Rattle.c_descriptor_writer.proofs.beside.places_from.Goals as goal
 
-pub blank_beside-blank-requires : goal.blank_beside-blank-requires
-blank_beside-blank-requires c = omega arith
-
 pub loop-i-init : goal.loop-i-init
 unfolding blank_beside filled
 loop-i-init c =
     let a = c.args in
     let e = ap (λ (b : Beside). b.components) c.blank_beside-blank.ensures in
-    (omega arith, rw e (length-replicate 255 blank_component), e ∙ paste-zero (replicate 255 blank_component) 0 (places_of place_from 2 a.count (places_in a.words.now)))
-
-pub overflow_mul-i : goal.overflow_mul-i
-overflow_mul-i c = omega arith
-
-pub overflow_add-i : goal.overflow_add-i
-overflow_add-i c = omega arith
-
-pub words_from-requires : goal.words_from-requires
-words_from-requires c = omega arith
-
-pub place_from-requires : goal.place_from-requires
-place_from-requires c = omega arith
-
-pub offset_bounds-out-i : goal.offset_bounds-out-i
-offset_bounds-out-i c = omega arith
-
-pub bounds-out-i : goal.bounds-out-i
-bounds-out-i c = omega arith
-
-pub overflow_add-i-in-loop-i : goal.overflow_add-i-in-loop-i
-overflow_add-i-in-loop-i c = omega arith
-
-pub loop-i-smaller : goal.loop-i-smaller
-loop-i-smaller c = omega arith
+    (rw e (length-replicate 255 blank_component), e ∙ paste-zero (replicate 255 blank_component) 0 (places_of place_from 2 a.count (places_in a.words.now)))
 
 pub loop-i-preserved : goal.loop-i-preserved
 loop-i-preserved c =
     let a = c.args in
     let p = drop-drop (c.loop-i.i * 2) 5 a.words.now in
     let e = c.place_from.ensures ∙ ap place_from (c.words_from.ensures ∙ sym p) ∙ places_at place_from 2 a.count (places_in a.words.now) c.loop-i.i blank_component (omega arith) in
-    (omega arith, length-set c.loop-i.out c.loop-i.i _ ∙ c.loop-i.invariant.1, filled_turn (replicate 255 blank_component) (places_of place_from 2 a.count (places_in a.words.now)) c.loop-i.out c.loop-i.i _ blank_component (omega (arith, length-replicate 255 blank_component)) (omega (arith, places_length place_from 2 a.count (places_in a.words.now))) e c.loop-i.invariant.2)
+    (length-set c.loop-i.out c.loop-i.i _ ∙ c.loop-i.invariant.0, filled_turn (replicate 255 blank_component) (places_of place_from 2 a.count (places_in a.words.now)) c.loop-i.out c.loop-i.i _ blank_component (omega (arith, length-replicate 255 blank_component)) (omega (arith, places_length place_from 2 a.count (places_in a.words.now))) e c.loop-i.invariant.1)
 
 pub returns : goal.returns
 unfolding places_from filled
 returns c =
     let a = c.args in
-    filled_front 255 blank_component c.loop-i.out (places_of place_from 2 a.count (places_in a.words.now)) c.loop-i.i a.count (places_length place_from 2 a.count (places_in a.words.now)) (omega arith) c.loop-i.invariant.2
+    filled_front 255 blank_component c.loop-i.out (places_of place_from 2 a.count (places_in a.words.now)) c.loop-i.i a.count (places_length place_from 2 a.count (places_in a.words.now)) (omega arith) c.loop-i.invariant.1

@@ -1,5 +1,4 @@
 -- `c_descriptor_writer::beside::places_from`: the first places stand in the array.
-use Prim.Native.Nat.{◌-◌, ◌≤◌}
 use mathlib.Core.Path.{◌≡◌}
 use lib.ListN.{length, replicate}
 use lib.Seq.{paste}
@@ -10,7 +9,4 @@ use Rattle.c_descriptor_writer.specs.ItemWords.{places_in}
 use Rattle.c_descriptor_writer.proofs.beside.places_from.Given as goal
 
 abbrev pub invariant-loop-i : goal.invariant-loop-i
-invariant-loop-i l = (l.i ≤ l.count) × (length l.out ≡ 255) × (l.out ≡ paste (replicate 255 blank_component) 0 (places_of place_from 2 l.count (places_in l.words)) l.i)
-
-abbrev pub decreases-loop-i : goal.decreases-loop-i
-decreases-loop-i l = l.count - l.i
+invariant-loop-i l = (length l.out ≡ 255) × (l.out ≡ paste (replicate 255 blank_component) 0 (places_of place_from 2 l.count (places_in l.words)) l.i)

@@ -4,4 +4,4 @@ use Rattle.c_descriptor_writer.proofs.values.detail_from.Goals as goal
 
 pub returns : goal.returns
 unfolding detail_from
-returns c = rw (c.sub_segments_from.ensures, c.from_id.ensures, c.duration_from.ensures, c.mode_from.ensures, c.delivery_from.ensures)
+returns c = rw (c.sub_segments_from.ensures, c.from.ensures, c.duration_from.ensures, c.mode_from.ensures, c.delivery_from.ensures)

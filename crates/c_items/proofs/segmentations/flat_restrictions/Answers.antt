@@ -6,6 +6,6 @@ pub returns-in-None : goal.returns-in-None
 unfolding flat_restrictions
 returns-in-None c = rw c.in-None.is
 
-pub returns-in-DeliveryRestrictions : goal.returns-in-DeliveryRestrictions
+pub returns-in-Some : goal.returns-in-Some
 unfolding flat_restrictions
-returns-in-DeliveryRestrictions c = rw (c.in-DeliveryRestrictions.is, c.flat_flag.ensures, c.flat_flag-in-DeliveryRestrictions.ensures, c.flat_flag-in-DeliveryRestrictions-2.ensures, c.bits.ensures)
+returns-in-Some c = rw (c.in-Some.is, c.flat_flag.ensures, c.flat_flag-in-Some.ensures, c.flat_flag-in-Some-2.ensures, c.from.ensures)

@@ -1,15 +1,17 @@
 -- `c_items::steps::refusal_number` meets its contract.
+use Rattle.std.proofs.Common.{Some}
+use mathlib.Core.Path.{ap, ◌∙◌}
 use Rattle.c_items.specs.FlatItem.{refusal_in}
 use Rattle.c_items.proofs.steps.refusal_number.Goals as goal
 
-pub returns-in-End : goal.returns-in-End
+pub returns-in-None : goal.returns-in-None
 unfolding refusal_in
-returns-in-End c = rw c.in-End.is
+returns-in-None c = rw c.in-None.is
 
-pub returns-in-Refused : goal.returns-in-Refused
+pub returns-in-Some-Err : goal.returns-in-Some-Err
 unfolding refusal_in
-returns-in-Refused c = rw c.in-Refused.is c.item_number.ensures
+returns-in-Some-Err c = rw (c.in-Some-Err.is, rw c.in-Some-Err.is at c.in-Some-Err.field-0-is) c.item_number.ensures
 
-pub returns-in-Is : goal.returns-in-Is
+pub returns-in-Some-Ok : goal.returns-in-Some-Ok
 unfolding refusal_in
-returns-in-Is c = rw c.in-Is.is
+returns-in-Some-Ok c = rw (c.in-Some-Ok.is, rw c.in-Some-Ok.is at c.in-Some-Ok.field-0-is)

@@ -1,15 +1,17 @@
 -- `c_items::steps::refusal_values` meets its contract.
+use Rattle.std.proofs.Common.{Some}
+use mathlib.Core.Path.{ap, ◌∙◌}
 use Rattle.c_items.specs.FlatItem.{values_in}
 use Rattle.c_items.proofs.steps.refusal_values.Goals as goal
 
-pub returns-in-End : goal.returns-in-End
+pub returns-in-None : goal.returns-in-None
 unfolding values_in
-returns-in-End c = rw c.in-End.is
+returns-in-None c = rw c.in-None.is
 
-pub returns-in-Refused : goal.returns-in-Refused
+pub returns-in-Some-Err : goal.returns-in-Some-Err
 unfolding values_in
-returns-in-Refused c = rw c.in-Refused.is c.item_values.ensures
+returns-in-Some-Err c = rw (c.in-Some-Err.is, rw c.in-Some-Err.is at c.in-Some-Err.field-0-is) c.item_values.ensures
 
-pub returns-in-Is : goal.returns-in-Is
+pub returns-in-Some-Ok : goal.returns-in-Some-Ok
 unfolding values_in
-returns-in-Is c = rw c.in-Is.is
+returns-in-Some-Ok c = rw (c.in-Some-Ok.is, rw c.in-Some-Ok.is at c.in-Some-Ok.field-0-is)

@@ -2,10 +2,10 @@
 use Rattle.c_items.specs.FlatUpid.{flat_upid, flat_upid_read}
 use Rattle.c_items.proofs.upids.flat_upid.Goals as goal
 
-pub returns-in-Fine : goal.returns-in-Fine
+pub returns-in-Ok : goal.returns-in-Ok
 unfolding flat_upid flat_upid_read
-returns-in-Fine c = rw (c.in-Fine.is, c.flat_eidr.ensures, c.flat_parts.ensures)
+returns-in-Ok c = rw (c.in-Ok.is, c.flat_eidr.ensures, c.flat_parts.ensures)
 
-pub returns-in-Refused : goal.returns-in-Refused
+pub returns-in-Err : goal.returns-in-Err
 unfolding flat_upid flat_upid_read
-returns-in-Refused c = rw (c.in-Refused.is, c.number.ensures, c.values.ensures, c.no_parts.ensures)
+returns-in-Err c = rw (c.in-Err.is, c.number.ensures, c.values.ensures, c.no_parts.ensures)

@@ -4,4 +4,4 @@ use Rattle.c_section.proofs.commands.active_insert.Goals as goal
 
 pub returns : goal.returns
 unfolding active_insert
-returns c = rw (c.flag.ensures, c.flat_mode.ensures, c.flat_break.ensures)
+returns c = rw (c.from.ensures, c.flat_mode.ensures, c.flat_break.ensures)

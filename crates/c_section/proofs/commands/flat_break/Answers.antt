@@ -2,10 +2,10 @@
 use Rattle.c_section.specs.FlatCommand.{flat_break}
 use Rattle.c_section.proofs.commands.flat_break.Goals as goal
 
-pub returns-in-Absent : goal.returns-in-Absent
+pub returns-in-None : goal.returns-in-None
 unfolding flat_break
-returns-in-Absent c = rw c.in-Absent.is
+returns-in-None c = rw c.in-None.is
 
-pub returns-in-Lasts : goal.returns-in-Lasts
+pub returns-in-Some : goal.returns-in-Some
 unfolding flat_break
-returns-in-Lasts c = rw (c.in-Lasts.is, c.flag.ensures)
+returns-in-Some c = rw (c.in-Some.is, c.from.ensures)

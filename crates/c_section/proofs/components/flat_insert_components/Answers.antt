@@ -1,6 +1,7 @@
 -- `c_section::components::flat_insert_components` meets its contract.
+use Rattle.std.proofs.Common.{Err}
 use Prim.Native.Nat.{ℕ}
-use mathlib.Core.Path.{◌≡◌, refl}
+use mathlib.Core.Path.{◌≡◌, refl, ap, ◌∙◌}
 use Rattle.command.specs.Command.{count_in}
 use Rattle.command.specs.Insert.{count, insert_of}
 use Rattle.command.specs.declared.SpliceCommand.{SpliceCommand}
@@ -28,14 +29,14 @@ counts (SpliceCommand.TimeSignal t) = mode_counts (SpliceMode.Components 0)
 counts SpliceCommand.BandwidthReservation = mode_counts (SpliceMode.Components 0)
 counts (SpliceCommand.PrivateCommand p) = mode_counts (SpliceMode.Components 0)
 
-pub returns-in-Is : goal.returns-in-Is
+pub returns-in-Ok : goal.returns-in-Ok
 unfolding flat_insert_components
-returns-in-Is c = rw (c.in-Is.is, c.flat_command-told.ensures, counts c.in-Is.c, c.flat_components.ensures)
+returns-in-Ok c = rw (c.in-Ok.is, c.flat_command-told.ensures, counts c.in-Ok.c, c.flat_components.ensures)
 
-pub returns-in-UnknownType : goal.returns-in-UnknownType
+pub returns-in-Err-UnknownType : goal.returns-in-Err-UnknownType
 unfolding flat_insert_components
-returns-in-UnknownType c = rw (c.number.ensures, c.in-UnknownType.is, c.no_components.ensures)
+returns-in-Err-UnknownType c = rw (c.number.ensures, c.in-Err-UnknownType.is, rw c.in-Err-UnknownType.is at c.in-Err-UnknownType.field-0-is, c.no_components.ensures)
 
-pub returns-in-Malformed : goal.returns-in-Malformed
+pub returns-in-Err-Malformed : goal.returns-in-Err-Malformed
 unfolding flat_insert_components
-returns-in-Malformed c = rw (c.number-in-Malformed.ensures, c.in-Malformed.is, c.no_components-in-Malformed.ensures)
+returns-in-Err-Malformed c = rw (c.number-in-Err-Malformed.ensures, c.in-Err-Malformed.is, rw c.in-Err-Malformed.is at c.in-Err-Malformed.field-0-is, c.no_components-in-Err-Malformed.ensures)

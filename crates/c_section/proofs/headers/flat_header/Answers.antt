@@ -4,4 +4,4 @@ use Rattle.c_section.proofs.headers.flat_header.Goals as goal
 
 pub returns : goal.returns
 unfolding flat_header
-returns c = rw (c.flat_flag.ensures, c.id.ensures, c.id-2.ensures)
+returns c = rw (c.flat_flag.ensures, c.from.ensures, c.from-2.ensures)

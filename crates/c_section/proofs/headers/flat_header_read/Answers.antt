@@ -2,10 +2,10 @@
 use Rattle.c_section.specs.Flat.{flat_header_read}
 use Rattle.c_section.proofs.headers.flat_header_read.Goals as goal
 
-pub returns-in-Header : goal.returns-in-Header
+pub returns-in-Some : goal.returns-in-Some
 unfolding flat_header_read
-returns-in-Header c = rw c.in-Header.is c.flat_header.ensures
+returns-in-Some c = rw c.in-Some.is c.flat_header.ensures
 
-pub returns-in-NoHeader : goal.returns-in-NoHeader
+pub returns-in-None : goal.returns-in-None
 unfolding flat_header_read
-returns-in-NoHeader c = rw c.in-NoHeader.is c.no_header.ensures
+returns-in-None c = rw c.in-None.is c.no_header.ensures

@@ -4,8 +4,8 @@ use Rattle.command.proofs.components.count_of.Goals as goal
 
 pub returns-in-Components : goal.returns-in-Components
 returns-in-Components c =
-    counted _ _ _ _ _ c.in-Is.is c.in-SpliceInsert.is c.in-Insert.is c.in-Components.is
+    counted _ _ _ _ _ c.in-Ok.is c.in-SpliceInsert.is c.in-Insert.is c.in-Components.is
 
 pub returns-in-Program : goal.returns-in-Program
 returns-in-Program c =
-    counted _ _ _ _ _ c.in-Is.is c.in-SpliceInsert.is c.in-Insert.is c.in-Program.is
+    counted _ _ _ _ _ c.in-Ok.is c.in-SpliceInsert.is c.in-Insert.is c.in-Program.is

@@ -1,8 +1,5 @@
 -- `command::components::fill`: what is ahead, stored behind what is there, gives what the whole gives.
-use Prim.Native.Nat.{◌*◌, ◌-◌, ◌≤◌}
-use mathlib.Core.List.{[]}
-use mathlib.Core.Path.{◌≡◌}
-use lib.ListN.{length}
+use Rattle.std.proofs.Common.{◌≡◌, ◌*◌, ◌-◌, [], length}
 use Rattle.table.specs.Bits.{bits_of}
 use Rattle.table.specs.Table.{list, parse}
 use Rattle.command.specs.Command.{array}
@@ -12,7 +9,4 @@ use Rattle.command.proofs.components.fill.Given as goal
 
 abbrev pub invariant-loop-i : goal.invariant-loop-i
 invariant-loop-i l =
-    (l.i ≤ l.count) × (length l.out ≡ 255) × (filled l.out l.i (parse (list (l.count - l.i) blank (component l.immediate)) (bits_of l.s) (l.at * 8)) ≡ filled (array []) 0 (parse (list l.count blank (component l.immediate)) (bits_of l.s) (l.first * 8)))
-
-abbrev pub decreases-loop-i : goal.decreases-loop-i
-decreases-loop-i l = l.count - l.i
+    (length l.out ≡ 255) × (filled l.out l.i (parse (list (l.count - l.i) blank (component l.immediate)) (bits_of l.s) (l.at * 8)) ≡ filled (array []) 0 (parse (list l.count blank (component l.immediate)) (bits_of l.s) (l.first * 8)))

@@ -1,4 +1,5 @@
 -- `command::insert::read_insert`: five bytes, and what is not cancelled.
+use Rattle.std.proofs.lemmas.Result.{err_from_is_err_and}
 use mathlib.Core.Path.{sym, ◌∙◌}
 use native.Mathlib.Omega.{arith}
 use Rattle.table.proofs.Reading.{bits_are}
@@ -20,12 +21,13 @@ returns-then-flags-ge128 c =
     let a = c.args in
     a_cancel a.payload.now c.big_endian-splice_event_id.result c.if-payload-lt5.false (bits_are a.payload.now 0 32 _ (omega arith) c.big_endian-splice_event_id.ensures).0 (c.type_inv.payload 4).fits c.if-flags-ge128.true
 
-pub returns-in-Got : goal.returns-in-Got
-returns-in-Got c =
+pub returns : goal.returns
+returns c =
     let a = c.args in
-    an_insert a.payload.now c.big_endian-splice_event_id.result c.if-payload-lt5.false (bits_are a.payload.now 0 32 _ (omega arith) c.big_endian-splice_event_id.ensures).0 (c.type_inv.payload 4).fits c.if-flags-ge128.false _ (sym c.in-Got.is ∙ c.read_active.ensures)
+    an_insert a.payload.now c.big_endian-splice_event_id.result c.if-payload-lt5.false (bits_are a.payload.now 0 32 _ (omega arith) c.big_endian-splice_event_id.ensures).0 (c.type_inv.payload 4).fits c.if-flags-ge128.false _ (sym c.in_ok-detail.was ∙ c.read_active.ensures)
 
-pub returns-in-Lacks : goal.returns-in-Lacks
-returns-in-Lacks c =
+pub returns-in_err-detail : goal.returns-in_err-detail
+returns-in_err-detail c =
+    let p = err_from_is_err_and c.from_residual.result c.from_residual.ensures.1 in
     let a = c.args in
-    no_active_lem a.payload.now c.big_endian-splice_event_id.result c.if-payload-lt5.false (bits_are a.payload.now 0 32 _ (omega arith) c.big_endian-splice_event_id.ensures).0 (c.type_inv.payload 4).fits c.if-flags-ge128.false _ (sym c.in-Lacks.is ∙ c.read_active.ensures)
+    rw (p.1, p.2) (no_active_lem a.payload.now c.big_endian-splice_event_id.result c.if-payload-lt5.false (bits_are a.payload.now 0 32 _ (omega arith) c.big_endian-splice_event_id.ensures).0 (c.type_inv.payload 4).fits c.if-flags-ge128.false _ (sym c.in_err-detail.was ∙ c.read_active.ensures))

@@ -1,12 +1,8 @@
--- `command_writer::insert::store_components`: the first i are stored.
-use Prim.Native.Nat.{◌-◌, ◌≤◌}
-use lib.ListN.{take}
+-- `command_writer::insert::store_components`: the components that are behind are stored.
+use Rattle.std.proofs.Common.{take}
 use Rattle.bit_stores.specs.Pen.{Pens}
 use Rattle.command_measure.specs.Fields.{ink, list_fields}
 use Rattle.command_writer.proofs.insert.store_components.Given as goal
 
-abbrev pub invariant-loop-i : goal.invariant-loop-i
-invariant-loop-i l = (l.i ≤ l.count) × Pens l.initial.out l.initial.next (ink (list_fields l.at_once (take l.i l.components))) l.out l.next
-
-abbrev pub decreases-loop-i : goal.decreases-loop-i
-decreases-loop-i l = l.count - l.i
+abbrev pub invariant-loop-component : goal.invariant-loop-component
+invariant-loop-component l = Pens l.initial.out l.initial.next (ink (list_fields l.at_once (take l.component-index l.component-items))) l.out l.next

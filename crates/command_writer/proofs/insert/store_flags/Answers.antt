@@ -13,7 +13,7 @@ pub returns : goal.returns
 returns c =
     let a = c.args in
     let i = a.insert in
-    let e₁ = c.wide-first.ensures.0 ∙ c.flag.ensures ∙ network_bit i.network_indicator in
+    let e₁ = c.wide-first.ensures.0 ∙ c.into.ensures ∙ network_bit i.network_indicator in
     let e₂ = c.flag_number-second.ensures.0 ∙ ap flag_number c.is_program.ensures in
     let e₃ = c.flag_number-third.ensures.0 ∙ ap flag_number c.lasts.ensures in
     let e₄ = c.flag_number-fourth.ensures.0 in

@@ -1,51 +1,36 @@
 -- `daterange_line::earlier::has_earlier`: the search from `at` on answers what the whole search answers.
-use mathlib.Core.Path.{refl, sym, ◌∙◌}
-use native.Mathlib.Omega.{arith}
-use Rattle.attribute_list.proofs.Completes.{within_line}
+use Rattle.std.proofs.Common.{◌≡◌, ℕ, arith, sym, ap, ◌∙◌, length, ◌-◌, ◌+◌, ◌≤◌, ◌<◌}
+use Rattle.daterange_line.specs.Private.{earlier}
 use Rattle.daterange_line.proofs.Searches.{earlier_end, earlier_none, earlier_fault, earlier_found, earlier_next}
 use Rattle.daterange_line.proofs.earlier.has_earlier.Goals as goal
 
-pub loop-left-init : goal.loop-left-init
-loop-left-init c = refl
+pub loop-init : goal.loop-init
+loop-init c =
+    let all : length c.args.line.now ≡ length c.args.line.now - 0 = omega arith in
+    ap (λ (m : ℕ). earlier m c.args.line.now c.args.place c.args.name.now 17) all
 
-pub returns-then-end-at : goal.returns-then-end-at
-returns-then-end-at c = sym (c.loop-left.invariant ∙ earlier_end _ _ _ _ _ c.if-end-at.true)
+pub returns-then-place-at : goal.returns-then-place-at
+returns-then-place-at c = sym (c.loop.invariant ∙ earlier_end _ _ _ _ _ c.if-place-at.true)
 
-pub returns-in-Nothing : goal.returns-in-Nothing
-returns-in-Nothing c = sym (c.loop-left.invariant ∙ earlier_fault _ _ _ _ _ _ c.loop-left-test.true c.if-end-at.false c.cut_at.ensures c.in-Nothing.is)
-
-pub overflow_add-after : goal.overflow_add-after
-overflow_add-after c = omega (arith, within_line c.args.line.now c.loop-left.at _ _ _ _ c.cut_at.ensures c.in-Is.is)
-
-pub slice_bounds-same_bytes-count : goal.slice_bounds-same_bytes-count
-slice_bounds-same_bytes-count c = omega arith
-
-pub slice_bounds-same_bytes-start : goal.slice_bounds-same_bytes-start
-slice_bounds-same_bytes-start c = omega arith
-
-pub slice_bounds-same_bytes-end : goal.slice_bounds-same_bytes-end
-slice_bounds-same_bytes-end c = omega (arith, within_line c.args.line.now c.loop-left.at _ _ _ _ c.cut_at.ensures c.in-Is.is)
+pub returns-in_default : goal.returns-in_default
+returns-in_default c =
+    let left : 0 < length c.args.line.now - c.loop.counter = omega arith in
+    sym (c.loop.invariant ∙ earlier_fault _ _ _ _ _ _ left c.if-place-at.false c.cut_at.ensures.cut c.in_default.is)
 
 pub returns-then-same_bytes : goal.returns-then-same_bytes
-returns-then-same_bytes c = sym (c.loop-left.invariant ∙ earlier_found _ _ _ _ _ _ _ _ _ c.loop-left-test.true c.if-end-at.false c.cut_at.ensures c.in-Is.is (sym c.same_bytes.ensures ∙ c.if-same_bytes.true))
+returns-then-same_bytes c =
+    let left : 0 < length c.args.line.now - c.loop.counter = omega arith in
+    sym (c.loop.invariant ∙ earlier_found _ _ _ _ _ _ _ left c.if-place-at.false c.cut_at.ensures.cut c.in-Some.is (sym c.same_bytes.ensures ∙ c.if-same_bytes.true))
 
-pub size-requires : goal.size-requires
-size-requires c = omega (arith, within_line c.args.line.now c.loop-left.at _ _ _ _ c.cut_at.ensures c.in-Is.is)
-
-pub overflow_add-at : goal.overflow_add-at
-overflow_add-at c = omega (arith, c.size.ensures, within_line c.args.line.now c.loop-left.at _ _ _ _ c.cut_at.ensures c.in-Is.is)
-
-pub overflow_add-at-in-Is : goal.overflow_add-at-in-Is
-overflow_add-at-in-Is c = omega (arith, c.size.ensures, within_line c.args.line.now c.loop-left.at _ _ _ _ c.cut_at.ensures c.in-Is.is)
-
-pub overflow_sub-left : goal.overflow_sub-left
-overflow_sub-left c = omega arith
-
-pub loop-left-smaller : goal.loop-left-smaller
-loop-left-smaller c = omega arith
-
-pub loop-left-preserved : goal.loop-left-preserved
-loop-left-preserved c = c.loop-left.invariant ∙ earlier_next _ _ _ _ _ _ _ _ _ c.loop-left-test.true c.if-end-at.false c.cut_at.ensures c.in-Is.is _ (sym c.same_bytes.ensures ∙ c.if-same_bytes.false) c.size.ensures
+pub loop-preserved : goal.loop-preserved
+loop-preserved c =
+    let left : 0 < length c.args.line.now - c.loop.counter = omega arith in
+    let one : length c.args.line.now - c.loop.counter - 1 ≡ length c.args.line.now - (c.loop.counter + 1) = omega arith in
+    c.loop.invariant
+    ∙ earlier_next _ _ _ _ _ _ _ left c.if-place-at.false c.cut_at.ensures.cut c.in-Some.is c.size.result (sym c.same_bytes.ensures ∙ c.if-same_bytes.false) c.size.ensures
+    ∙ ap (λ (m : ℕ). earlier m c.args.line.now c.args.place c.args.name.now (c.loop.at + (c.size.result + 1))) one
 
 pub returns : goal.returns
-returns c = sym (c.loop-left.invariant ∙ earlier_none _ _ _ _ _ c.loop-left-test.false)
+returns c =
+    let none : length c.args.line.now - c.loop.counter ≤ 0 = omega arith in
+    sym (c.loop.invariant ∙ earlier_none _ _ _ _ _ none)

@@ -2,20 +2,5 @@
 use Rattle.daterange_writer.proofs.Stored.{section_stored}
 use Rattle.daterange_writer.proofs.storing.put_line.Goals as goal
 
-pub put_bytes-requires : goal.put_bytes-requires
-put_bytes-requires c = tt
-
-pub put_bytes-requires-2 : goal.put_bytes-requires-2
-put_bytes-requires-2 c = tt
-
-pub put_bytes-requires-3 : goal.put_bytes-requires-3
-put_bytes-requires-3 c = tt
-
-pub put_bytes-requires-4 : goal.put_bytes-requires-4
-put_bytes-requires-4 c = tt
-
-pub put_bytes-requires-5 : goal.put_bytes-requires-5
-put_bytes-requires-5 c = tt
-
 pub returns : goal.returns
 returns c = section_stored _ _ _ _ _ _ _ _ _ _ _ c.requires c.put_bytes.ensures c.put_bytes-2.ensures c.put_bytes-3.ensures c.put_bytes-4.ensures c.put_bytes-5.ensures c.encode.ensures

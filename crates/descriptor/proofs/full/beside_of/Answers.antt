@@ -2,4 +2,4 @@
 use Rattle.descriptor.proofs.full.beside_of.Goals as goal
 
 pub returns-in-Segmentation : goal.returns-in-Segmentation
-returns-in-Segmentation c = rw (c.in-Is.is, c.in-Segmentation.is) c.read_beside.ensures
+returns-in-Segmentation c = rw (c.in-Ok.is, c.in-Segmentation.is) c.read_beside.ensures

@@ -3,8 +3,8 @@ use mathlib.Core.Path.{ap, sym, ◌∙◌}
 use Rattle.descriptor_measure.specs.Writing.{accepts}
 use Rattle.descriptor_canonical.proofs.segment.is_accepted.Goals as goal
 
-pub returns-in-Fine : goal.returns-in-Fine
-returns-in-Fine c = sym (ap accepts c.in-Fine.is) ∙ ap accepts c.check_upid.ensures
+pub returns-in-Ok : goal.returns-in-Ok
+returns-in-Ok c = sym (ap accepts c.in-Ok.is) ∙ ap accepts c.check_upid.ensures
 
-pub returns-in-Refused : goal.returns-in-Refused
-returns-in-Refused c = sym (ap accepts c.in-Refused.is) ∙ ap accepts c.check_upid.ensures
+pub returns-in-Err : goal.returns-in-Err
+returns-in-Err c = sym (ap accepts c.in-Err.is) ∙ ap accepts c.check_upid.ensures

@@ -2,5 +2,5 @@
 use Rattle.descriptor_measure.proofs.Tests.{duration_byte}
 use Rattle.descriptor_measure.proofs.segment.duration_fits.Goals as goal
 
-pub returns-in-Ticks : goal.returns-in-Ticks
-returns-in-Ticks c = duration_byte _ _ c.in-Ticks.is
+pub returns-in-Some : goal.returns-in-Some
+returns-in-Some c = duration_byte _ _ c.in-Some.is

@@ -19,8 +19,8 @@ returns-then-bytes-eq0 c = upid_empty c.args.u c.args.eidr c.args.lent.now c.if-
 pub returns-then-u-eq5 : goal.returns-then-u-eq5
 returns-then-u-eq5 c = upid_five c.args.u c.args.eidr c.args.lent.now c.if-u-eq-UPID_EIDR.false _ c.is_zero.ensures c.if-not-is_zero.false-raw c.if-u-eq0.false c.if-bytes-eq0.false c.if-u-eq5.true
 
-pub returns-in-Fine : goal.returns-in-Fine
-returns-in-Fine c = sym (ap accepts c.in-Fine.is) ∙ upid_read_lem c.args.u c.args.eidr c.args.lent.now c.if-u-eq-UPID_EIDR.false _ c.is_zero.ensures c.if-not-is_zero.false-raw c.if-u-eq0.false c.if-bytes-eq0.false c.if-u-eq5.false _ _ _ c.view-part.ensures c.written_type.ensures c.check_upid.ensures
+pub returns-in-Ok : goal.returns-in-Ok
+returns-in-Ok c = sym (ap accepts c.in-Ok.is) ∙ upid_read_lem c.args.u c.args.eidr c.args.lent.now c.if-u-eq-UPID_EIDR.false _ c.is_zero.ensures c.if-not-is_zero.false-raw c.if-u-eq0.false c.if-bytes-eq0.false c.if-u-eq5.false _ _ _ c.view-part.ensures c.written_type.ensures c.check_upid.ensures
 
-pub returns-in-Refused : goal.returns-in-Refused
-returns-in-Refused c = sym (ap accepts c.in-Refused.is) ∙ upid_read_lem c.args.u c.args.eidr c.args.lent.now c.if-u-eq-UPID_EIDR.false _ c.is_zero.ensures c.if-not-is_zero.false-raw c.if-u-eq0.false c.if-bytes-eq0.false c.if-u-eq5.false _ _ _ c.view-part.ensures c.written_type.ensures c.check_upid.ensures
+pub returns-in-Err : goal.returns-in-Err
+returns-in-Err c = sym (ap accepts c.in-Err.is) ∙ upid_read_lem c.args.u c.args.eidr c.args.lent.now c.if-u-eq-UPID_EIDR.false _ c.is_zero.ensures c.if-not-is_zero.false-raw c.if-u-eq0.false c.if-bytes-eq0.false c.if-u-eq5.false _ _ _ c.view-part.ensures c.written_type.ensures c.check_upid.ensures

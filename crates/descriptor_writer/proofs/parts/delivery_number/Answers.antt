@@ -7,9 +7,9 @@ use Rattle.descriptor_writer.proofs.parts.delivery_number.Goals as goal
 pub returns-in-None : goal.returns-in-None
 returns-in-None c = (omega arith, λ from. delivery_none from _ c.in-None.is)
 
-pub returns-in-DeliveryRestrictions : goal.returns-in-DeliveryRestrictions
-returns-in-DeliveryRestrictions c =
-    let v = c.wide.ensures.0 ∙ c.bits.ensures in (
-      omega (arith, c.flag_number-web.ensures.1, c.flag_number-blackout.ensures.1, c.flag_number-archive.ensures.1, v, device_small c.in-DeliveryRestrictions.r.device_restrictions),
-      λ from. delivery_bits from _ _ _ _ _ _ _ c.in-DeliveryRestrictions.is c.flag_number-web.ensures c.flag_number-blackout.ensures c.flag_number-archive.ensures v refl,
+pub returns-in-Some : goal.returns-in-Some
+returns-in-Some c =
+    let v = c.wide.ensures.0 ∙ c.into.ensures in (
+      omega (arith, c.flag_number-web.ensures.1, c.flag_number-blackout.ensures.1, c.flag_number-archive.ensures.1, v, device_small c.in-Some.r.device_restrictions),
+      λ from. delivery_bits from _ _ _ _ _ _ _ c.in-Some.is c.flag_number-web.ensures c.flag_number-blackout.ensures c.flag_number-archive.ensures v refl,
     )

@@ -1,16 +1,11 @@
 -- `descriptor_writer::parts::store_components`. The loop's invariant: what is stored behind nothing, is the components so far.
-use Prim.Native.Nat.{ℕ, ◌-◌, ◌≤◌}
-use mathlib.Core.List.{List, []}
-use mathlib.Core.Path.{◌≡◌}
-use lib.ListN.{length, take}
+use Rattle.std.proofs.Common.{ℕ, ◌≡◌, List, [], length, take}
 use Rattle.table.specs.Writing.{contents}
 use Rattle.table.specs.declared.cursor.Cursor.{Cursor}
 use Rattle.descriptor_measure.specs.Private.{components_fields}
 use Rattle.descriptor_writer.specs.Private.{Stores}
 use Rattle.descriptor_writer.proofs.parts.store_components.Given as goal
 
-abbrev pub invariant-loop-i : goal.invariant-loop-i
-invariant-loop-i l = (l.i ≤ l.n) × (length l.out ≡ length l.initial.out) × ((t : List ℕ) (c : Cursor) (from : List ℕ) → Stores t c [] l.initial.out l.initial.next → Stores t c (contents from (components_fields (take l.i l.components))) l.out l.next)
-
-abbrev pub decreases-loop-i : goal.decreases-loop-i
-decreases-loop-i l = l.n - l.i
+abbrev pub invariant-loop-component : goal.invariant-loop-component
+invariant-loop-component l =
+    (length l.out ≡ length l.initial.out) × ((t : List ℕ) (c : Cursor) (from : List ℕ) → Stores t c [] l.initial.out l.initial.next → Stores t c (contents from (components_fields (take l.component-index l.component-items))) l.out l.next)

@@ -4,12 +4,12 @@ use Rattle.section.specs.Full.{beside_command}
 use Rattle.section.proofs.FullReadings.{full_is, full_refused}
 use Rattle.section.proofs.full.read_full_section.Goals as goal
 
-pub returns-in-Refused : goal.returns-in-Refused
-returns-in-Refused c =
+pub returns-in-Err : goal.returns-in-Err
+returns-in-Err c =
     let a = c.args in
-    full_refused a.section.now _ c.read_section-read.ensures _ c.in-Refused.is _ c.blanks.ensures
+    full_refused a.section.now _ c.read_section-read.ensures _ c.in-Err.is _ c.blanks.ensures
 
-pub returns-in-Is : goal.returns-in-Is
-returns-in-Is c =
+pub returns-in-Ok : goal.returns-in-Ok
+returns-in-Ok c =
     let a = c.args in
-    full_is a.section.now _ (sym c.in-Is.is ∙ c.read_section-read.ensures) _ refl _ (c.beside_command.ensures ∙ ap (beside_command c.in-Is.x.command) c.view.ensures)
+    full_is a.section.now _ (sym c.in-Ok.is ∙ c.read_section-read.ensures) _ refl _ (c.beside_command.ensures ∙ ap (beside_command c.in-Ok.x.command) c.view.ensures)

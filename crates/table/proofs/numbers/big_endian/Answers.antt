@@ -1,9 +1,7 @@
 -- `table::numbers::big_endian`: the bytes that are behind stand in v.
 use Prim.Native.Nat.{◌+◌, ◌-◌, ◌*◌, ◌%◌, ◌^◌}
 use mathlib.Core.Path.{◌≡◌}
-use native.Mathlib.Nat.{mod-lt}
 use native.Mathlib.Omega.{arith}
-use lib.Pow.{pow_pos}
 use Rattle.table.specs.Bits.{bits_of, field}
 use Rattle.table.proofs.Reading.{turn_byte, turn_none}
 use Rattle.table.proofs.numbers.big_endian.Goals as goal
@@ -24,24 +22,6 @@ pub returns-then-s-i : goal.returns-then-s-i
 returns-then-s-i c =
     let a = c.args in
     turn_none a.s.now (a.at * 8) (a.n * 8) (c.loop-ahead.ahead * 8) c.loop-ahead.i c.loop-ahead.v (omega arith) c.if-s-i.true (omega arith) c.loop-ahead.invariant.2
-
-pub bounds-s-i : goal.bounds-s-i
-bounds-s-i c = omega arith
-
-pub wide-requires : goal.wide-requires
-wide-requires c = omega arith
-
-pub overflow_add-v : goal.overflow_add-v
-overflow_add-v c = record { fits = rw (read c) (mod-lt _ (pow_pos 64)) }
-
-pub overflow_add-i : goal.overflow_add-i
-overflow_add-i c = omega arith
-
-pub overflow_sub-ahead : goal.overflow_sub-ahead
-overflow_sub-ahead c = omega arith
-
-pub loop-ahead-smaller : goal.loop-ahead-smaller
-loop-ahead-smaller c = omega arith
 
 pub loop-ahead-preserved : goal.loop-ahead-preserved
 loop-ahead-preserved c =

@@ -1,14 +1,9 @@
--- `upid::text::is_text` meets its contract: what is left of the bytes, read on from `t`, gives what the done gives.
-use Prim.Native.Nat.{◌-◌, ◌≤◌}
-use mathlib.Core.Path.{◌≡◌}
-use mathlib.Core.List.{[], foldl}
-use lib.ListN.{length, drop}
+-- `upid::text::is_text` meets its contract: what is left of the bytes, read on from `t`, gives what all of them give.
+use Rattle.std.proofs.Common.{◌≡◌, [], drop}
+use mathlib.Core.List.{foldl}
 use Rattle.upid.specs.Text.{wants, step}
 use Rattle.upid.specs.Private.{meaning}
 use Rattle.upid.proofs.text.is_text.Given as goal
 
-abbrev pub invariant-loop-i : goal.invariant-loop-i
-invariant-loop-i l = (l.i ≤ length l.s) × (foldl step (wants []) l.s ≡ foldl step (meaning l.t) (drop l.i l.s))
-
-abbrev pub decreases-loop-i : goal.decreases-loop-i
-decreases-loop-i l = length l.s - l.i
+abbrev pub invariant-loop-b : goal.invariant-loop-b
+invariant-loop-b l = foldl step (wants []) l.s ≡ foldl step (meaning l.t) (drop l.b-index l.b-items)

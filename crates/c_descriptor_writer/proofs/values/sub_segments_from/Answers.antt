@@ -1,9 +1,0 @@
--- `c_descriptor_writer::values::sub_segments_from`, by the flag.
-use borrow.Author.Tests.{eq-eqb, ne_eqb}
-use Rattle.c_descriptor_writer.proofs.values.sub_segments_from.Goals as goal
-
-pub returns-then-s-eq1 : goal.returns-then-s-eq1
-returns-then-s-eq1 c = rw (eq-eqb _ _ c.if-s-eq1.true)
-
-pub returns : goal.returns
-returns c = rw (ne_eqb _ _ c.if-s-eq1.false)
