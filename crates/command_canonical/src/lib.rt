@@ -67,12 +67,7 @@ fn pass_components(s: &[u8], at: usize, count: usize, immediate: bool) -> Option
         if s.len() <= next {
             return None;
         }
-        match pass_time_unless(s, next + 1, immediate) {
-            Some(end) => {
-                next = end;
-            }
-            None => return None,
-        }
+        next = pass_time_unless(s, next + 1, immediate)?;
     }
     Some(next)
 }
@@ -126,14 +121,8 @@ fn pass_active(s: &[u8]) -> Option<usize>
     if flags % 16 != 15 {
         return None;
     }
-    let moded = match pass_mode(s, 6, flags / 64 % 2 == 1, flags / 16 % 2 == 1) {
-        Some(end) => end,
-        None => return None,
-    };
-    let broken = match pass_break(s, moded, flags / 32 % 2 == 1) {
-        Some(end) => end,
-        None => return None,
-    };
+    let moded = pass_mode(s, 6, flags / 64 % 2 == 1, flags / 16 % 2 == 1)?;
+    let broken = pass_break(s, moded, flags / 32 % 2 == 1)?;
     if s.len() < broken {
         return None;
     }

@@ -39,7 +39,7 @@ pub struct Reading {
 }
 
 // Why a line is not read, in the order of the tests.
-#[derive(Clone, Copy)]
+#[derive(Clone, Copy, Debug, PartialEq, Eq)]
 pub enum LineRefusal {
     MalformedLine,
     AttributeMissing,

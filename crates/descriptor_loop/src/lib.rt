@@ -15,7 +15,7 @@ pub const MAX_LOOP: usize = 4076;
 pub const MAX_DESCRIPTOR: usize = 254;
 
 // Refusals 2 and 21 to 25: 22, and those that a UPID has too.
-#[derive(Clone, Copy)]
+#[derive(Clone, Copy, Debug, PartialEq, Eq)]
 pub enum ItemRefusal {
     InvalidDescriptorLength,
     Other(Refusal),

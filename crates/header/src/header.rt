@@ -22,17 +22,15 @@ pub struct SpliceInfoHeader {
 pub fn read_header(s: &[u8]) -> Option<SpliceInfoHeader>
     ensures { result ≡ header_of s.now }
 {
-    match read_header_numbers(s) {
-        Some(n) => Some(SpliceInfoHeader {
-            protocol_version: n.protocol_version,
-            encrypted_packet: n.encrypted_packet,
-            encryption_algorithm: EncryptionAlgorithm::from(n.encryption_algorithm),
-            pts_adjustment: n.pts_adjustment,
-            cw_index: n.cw_index,
-            tier: n.tier,
-            splice_command_length: n.splice_command_length,
-            splice_command_type: SpliceCommandType::from(n.splice_command_type),
-        }),
-        None => None,
-    }
+    let n = read_header_numbers(s)?;
+    Some(SpliceInfoHeader {
+        protocol_version: n.protocol_version,
+        encrypted_packet: n.encrypted_packet,
+        encryption_algorithm: EncryptionAlgorithm::from(n.encryption_algorithm),
+        pts_adjustment: n.pts_adjustment,
+        cw_index: n.cw_index,
+        tier: n.tier,
+        splice_command_length: n.splice_command_length,
+        splice_command_type: SpliceCommandType::from(n.splice_command_type),
+    })
 }

@@ -39,7 +39,7 @@ pub struct Section {
 }
 
 // Refusals 1 to 11, in their order.
-#[derive(Clone, Copy)]
+#[derive(Clone, Copy, Debug, PartialEq, Eq)]
 pub enum Refusal {
     SectionTooShort,
     InputTooLong,

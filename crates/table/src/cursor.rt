@@ -15,7 +15,7 @@ pub struct Cursor {
 }
 
 // Refusal 21: not enough data.
-#[derive(Clone, Copy)]
+#[derive(Clone, Copy, Debug, PartialEq, Eq)]
 pub struct Short {
     pub expected: usize,
     pub actual: usize,

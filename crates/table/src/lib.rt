@@ -7,7 +7,7 @@ pub mod numbers;
 pub mod store;
 
 // A run of the lent bytes: `len` of them, from `at` on.
-#[derive(Clone, Copy)]
+#[derive(Clone, Copy, Debug, PartialEq, Eq)]
 pub struct View {
     pub at: usize,
     pub len: usize,

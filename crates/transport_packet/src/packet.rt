@@ -5,7 +5,7 @@ ghost use Rattle.transport_packet.specs.Packet.{head_of, number_of, payload_at};
 use table::numbers::size;
 
 // Refusals 71 to 75.
-#[derive(Clone, Copy)]
+#[derive(Clone, Copy, Debug, PartialEq, Eq)]
 pub enum Refusal {
     NotAPacket,
     OtherPid,

@@ -26,7 +26,7 @@ pub const UPID_EIDR: u8 = 10;
 pub const UPID_MID: u8 = 13;
 
 // Refusals 2, 21, 23, 24 and 25. A view counts from the start of the UPID.
-#[derive(Clone, Copy)]
+#[derive(Clone, Copy, Debug, PartialEq, Eq)]
 pub enum Refusal {
     InputTooLong,
     NotEnoughData {

@@ -11,26 +11,27 @@ pub returns-then-flags-ne15 : goal.returns-then-flags-ne15
 returns-then-flags-ne15 c =
     flags_reserved c.args.s.now c.if-s-le5.false (c.type_inv.s 5).fits c.if-flags-ne15.true
 
-pub returns-in-None : goal.returns-in-None
-returns-in-None c =
-    no_mode c.args.s.now c.if-s-le5.false (c.type_inv.s 5).fits (told_other _ _ 6 _ c.pass_mode.ensures c.in-None.is)
+pub returns-in_err-moded : goal.returns-in_err-moded
+returns-in_err-moded c =
+    rw c.from_residual.ensures (no_mode c.args.s.now c.if-s-le5.false (c.type_inv.s 5).fits (told_other _ _ 6 _ c.pass_mode.ensures c.in_err-moded.was))
 
-pub returns-in-None-pass_break : goal.returns-in-None-pass_break
-returns-in-None-pass_break c =
-    no_active_lem c.args.s.now c.if-s-le5.false (c.type_inv.s 5).fits _ (told_ends _ _ 6 _ _ c.pass_mode.ensures c.in-Some.is)
-    (told_other _ _ _ _ c.pass_break.ensures c.in-None-pass_break.is)
+pub returns-in_err-broken : goal.returns-in_err-broken
+returns-in_err-broken c =
+    rw c.from_residual-in_err-broken.ensures
+    (no_active_lem c.args.s.now c.if-s-le5.false (c.type_inv.s 5).fits _ (told_ends _ _ 6 _ _ c.pass_mode.ensures c.in_ok-moded.was)
+    (told_other _ _ _ _ c.pass_break.ensures c.in_err-broken.was))
 
 pub returns-then-s-broken : goal.returns-then-s-broken
 returns-then-s-broken c =
-    lacks_active c.args.s.now c.if-s-le5.false (c.type_inv.s 5).fits _ (told_ends _ _ 6 _ _ c.pass_mode.ensures c.in-Some.is)
-    _ (told_ends _ _ _ _ _ c.pass_break.ensures c.in-Some-pass_break.is) (omega (arith, c.if-s-broken.true))
+    lacks_active c.args.s.now c.if-s-le5.false (c.type_inv.s 5).fits _ (told_ends _ _ 6 _ _ c.pass_mode.ensures c.in_ok-moded.was)
+    _ (told_ends _ _ _ _ _ c.pass_break.ensures c.in_ok-broken.was) (omega (arith, c.if-s-broken.true))
 
 pub returns-then-s-broken-lt4 : goal.returns-then-s-broken-lt4
 returns-then-s-broken-lt4 c =
-    lacks_active c.args.s.now c.if-s-le5.false (c.type_inv.s 5).fits _ (told_ends _ _ 6 _ _ c.pass_mode.ensures c.in-Some.is)
-    _ (told_ends _ _ _ _ _ c.pass_break.ensures c.in-Some-pass_break.is) (omega (arith, c.if-s-broken-lt4.true, c.if-s-broken.false))
+    lacks_active c.args.s.now c.if-s-le5.false (c.type_inv.s 5).fits _ (told_ends _ _ 6 _ _ c.pass_mode.ensures c.in_ok-moded.was)
+    _ (told_ends _ _ _ _ _ c.pass_break.ensures c.in_ok-broken.was) (omega (arith, c.if-s-broken-lt4.true, c.if-s-broken.false))
 
 pub returns : goal.returns
 returns c =
-    an_active c.args.s.now c.if-s-le5.false (c.type_inv.s 5).fits _ (told_ends _ _ 6 _ _ c.pass_mode.ensures c.in-Some.is)
-    _ (told_ends _ _ _ _ _ c.pass_break.ensures c.in-Some-pass_break.is) c.if-flags-ne15.false (omega (arith, c.if-s-broken-lt4.false, c.if-s-broken.false))
+    an_active c.args.s.now c.if-s-le5.false (c.type_inv.s 5).fits _ (told_ends _ _ 6 _ _ c.pass_mode.ensures c.in_ok-moded.was)
+    _ (told_ends _ _ _ _ _ c.pass_break.ensures c.in_ok-broken.was) c.if-flags-ne15.false (omega (arith, c.if-s-broken-lt4.false, c.if-s-broken.false))

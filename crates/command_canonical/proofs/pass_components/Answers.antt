@@ -13,17 +13,17 @@ returns-then-s-next c =
     let n : a.count - c.loop.counter ≡ suc (a.count - (c.loop.counter + 1)) = omega arith in
     stops _ _ _ _ _ _ (rw n at c.loop.invariant) (no_tag a.s.now c.loop.next a.immediate c.if-s-next.true)
 
-pub returns-in-None : goal.returns-in-None
-returns-in-None c =
+pub returns-in_err-next : goal.returns-in_err-next
+returns-in_err-next c =
     let a = c.args in
     let n : a.count - c.loop.counter ≡ suc (a.count - (c.loop.counter + 1)) = omega arith in
-    stops _ _ _ _ _ _ (rw n at c.loop.invariant) (no_component a.s.now c.loop.next a.immediate (told_other _ _ _ _ c.pass_time_unless.ensures c.in-None.is))
+    rw c.from_residual.ensures (stops _ _ _ _ _ _ (rw n at c.loop.invariant) (no_component a.s.now c.loop.next a.immediate (told_other _ _ _ _ c.pass_time_unless.ensures c.in_err-next.was)))
 
 pub loop-preserved : goal.loop-preserved
 loop-preserved c =
     let a = c.args in
     let n : a.count - c.loop.counter ≡ suc (a.count - (c.loop.counter + 1)) = omega arith in
-    goes_on_lem _ _ _ _ _ _ (rw n at c.loop.invariant) _ (a_component a.s.now c.loop.next a.immediate _ c.if-s-next.false (told_ends _ _ _ _ _ c.pass_time_unless.ensures c.in-Some.is))
+    goes_on_lem _ _ _ _ _ _ (rw n at c.loop.invariant) _ (a_component a.s.now c.loop.next a.immediate _ c.if-s-next.false (told_ends _ _ _ _ _ c.pass_time_unless.ensures c.in_ok-next.was))
 
 pub returns : goal.returns
 returns c = let z : c.args.count - c.loop.counter ≤ 0 = omega arith in none_ahead _ _ _ _ _ _ c.loop.invariant z
