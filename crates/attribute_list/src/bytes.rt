@@ -1,5 +1,5 @@
 // Bytes by the grammar's sets, and runs of them.
-ghost use Rattle.std.specs.Prelude.{◌≡◌, ℕ, Bool};
+ghost use Rattle.std.specs.Prelude.{◌≡◌, ◌+◌, ℕ, Bool, drop};
 ghost use Rattle.std.specs.List.{prefix_len};
 ghost use Rattle.attribute_list.specs.Grammar.{name_byte, quoted_byte, plain_byte};
 ghost use Rattle.attribute_list.specs.Cutting.{same};
@@ -13,10 +13,13 @@ pub trait Class {
 }
 
 // The bytes of a name, between quotes, and of an unquoted value.
+#[derive(Clone, Copy)]
 pub struct Name;
 
+#[derive(Clone, Copy)]
 pub struct Quoted;
 
+#[derive(Clone, Copy)]
 pub struct Plain;
 
 impl Class for Name {
@@ -60,6 +63,20 @@ pub fn run<C: Class>(bytes: &[u8]) -> usize
     ensures { result ≡ prefix_len C.test bytes.now }
 {
     bytes.iter().take_while(|b| C::has(**b)).count()
+}
+
+// What stands from a place on: nothing where it lies past the end.
+pub(crate) fn from(text: &[u8], at: usize) -> &[u8]
+    ensures { result.now ≡ drop at text.now }
+{
+    text.get(at..).unwrap_or(&[])
+}
+
+// Where the run of such bytes ends that begins at a place.
+pub fn past<C: Class>(line: &[u8], at: usize) -> usize
+    ensures { result ≡ at + prefix_len C.test (drop at line.now) }
+{
+    at + run::<C>(from(line, at))
 }
 
 // Whether two runs are the same bytes.

@@ -2,7 +2,7 @@
 ghost use Rattle.std.specs.Prelude.{◌≡◌, ◌+◌, ◌≤◌, IfSome, drop, get_or, length};
 ghost use Rattle.attribute_list.specs.Cutting.{closed, quoted_of, plain_of, cut_of, end_of};
 
-use crate::bytes::{Name, Plain, Quoted, run};
+use crate::bytes::{Name, Plain, Quoted, from, run};
 
 // The lengths of an attribute's name and value, and whether the value is quoted.
 #[derive(Clone, Copy)]
@@ -17,13 +17,6 @@ fn byte_at(text: &[u8], at: usize) -> u8
     ensures { result ≡ get_or text.now at 0 }
 {
     *text.get(at).unwrap_or(&0)
-}
-
-// What stands from a place on: nothing where it lies past the end.
-fn from(text: &[u8], at: usize) -> &[u8]
-    ensures { result.now ≡ drop at text.now }
-{
-    text.get(at..).unwrap_or(&[])
 }
 
 // Whether nothing or a comma stands at a place.
@@ -71,9 +64,9 @@ fn cut_off(text: &[u8]) -> Option<Cut>
     if name == 0 || byte_at(text, name) != b'=' {
         return None;
     }
-    let value = from(text, name + 1);
+    let value = &text[name + 1..];
     if byte_at(value, 0) == b'"' {
-        quoted(from(value, 1), name)
+        quoted(&value[1..], name)
     } else {
         plain(value, name)
     }

@@ -16,11 +16,11 @@ name_number Out = 2
 name_number In = 3
 
 -- what was read, or a refusal's number and zeros
-unfoldable pub flat_numbered : Result Reading ℕ → FlatDaterange
-flat_numbered (Ok x) = record { refusal = 0; id = flat_view x.id; date = flat_view x.date; name = name_number x.cue; length = x.len }
-flat_numbered (Err n) = record { refusal = n; id = flat_view no_view; date = flat_view no_view; name = 0; length = 0 }
+unfoldable pub flat_daterange : Result Reading ℕ → FlatDaterange
+flat_daterange (Ok x) = record { refusal = 0; id = flat_view x.id; date = flat_view x.date; name = name_number x.cue; length = x.len }
+flat_daterange (Err n) = record { refusal = n; id = flat_view no_view; date = flat_view no_view; name = 0; length = 0 }
 
 -- the same of a line's own refusals
-unfoldable pub flat_daterange : Result Reading LineRefusal → FlatDaterange
-flat_daterange (Ok x) = flat_numbered (Ok x)
-flat_daterange (Err r) = flat_numbered (Err (number_of r))
+unfoldable pub flat_line : Result Reading LineRefusal → FlatDaterange
+flat_line (Ok x) = flat_daterange (Ok x)
+flat_line (Err r) = flat_daterange (Err (number_of r))

@@ -2,7 +2,7 @@
 #![tactic(auto)]
 
 ghost use Rattle.std.specs.Prelude.{◌≡◌};
-ghost use Rattle.c_daterange.specs.FlatDaterange.{name_number, flat_numbered, flat_daterange};
+ghost use Rattle.c_daterange.specs.FlatDaterange.{name_number, flat_daterange, flat_line};
 
 use c_section::{FlatView, flat_view};
 use daterange_line::{Cue, LineRefusal, Reading};
@@ -29,9 +29,9 @@ fn name_number(c: Cue) -> u64
 }
 
 // A refusal comes as any number.
-#[tactic(auto, unfolding(crate::specs::FlatDaterange::flat_numbered))]
-pub fn flat_numbered(x: Result<Reading, u8>) -> FlatDaterange
-    ensures { result ≡ flat_numbered x }
+#[tactic(auto, unfolding(crate::specs::FlatDaterange::flat_daterange))]
+pub fn flat_daterange(x: Result<Reading, u8>) -> FlatDaterange
+    ensures { result ≡ flat_daterange x }
 {
     match x {
         Ok(y) => FlatDaterange {
@@ -51,12 +51,12 @@ pub fn flat_numbered(x: Result<Reading, u8>) -> FlatDaterange
     }
 }
 
-#[tactic(auto, unfolding(crate::specs::FlatDaterange::flat_daterange))]
-pub fn flat_daterange(x: Result<Reading, LineRefusal>) -> FlatDaterange
-    ensures { result ≡ flat_daterange x }
+#[tactic(auto, unfolding(crate::specs::FlatDaterange::flat_line))]
+pub fn flat_line(x: Result<Reading, LineRefusal>) -> FlatDaterange
+    ensures { result ≡ flat_line x }
 {
     match x {
-        Ok(y) => flat_numbered(Ok(y)),
-        Err(r) => flat_numbered(Err(r.number())),
+        Ok(y) => flat_daterange(Ok(y)),
+        Err(r) => flat_daterange(Err(r.number())),
     }
 }

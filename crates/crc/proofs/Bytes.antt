@@ -1,7 +1,6 @@
 -- What bits and bytes of a message do to the register.
 --     bits_next       a bit, of the n that are left
 --     byte_step, byte_in      a byte: its bits; eight steps, and the byte comes in
---     pass            n bytes of a list, four at most, from a place on: 8 n steps, and the number that they make comes in
 use mathlib.Core.Path.{◌≡◌, refl, sym, ap, ap₂, ◌∙◌, subst}
 use mathlib.Core.List.{List, [], ◌∷◌, ◌++◌}
 use Prim.Native.Nat.{ℕ, zero, suc, ◌+◌, ◌*◌, ◌/◌, ◌%◌, ◌^◌, ◌-◌, ◌<◌, ◌≤◌}

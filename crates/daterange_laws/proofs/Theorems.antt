@@ -21,7 +21,7 @@ use Rattle.bit_stores.specs.Written.{answer_of, later_of}
 use Rattle.table.proofs.Lists.{zero_one, below_all}
 use Rattle.attribute_list.specs.Grammar.{all, name_byte, quoted_byte, plain_byte, hex_byte, Attribute, plain, valid, Line}
 use Rattle.attribute_list.specs.Cutting.{same, attributes_of}
-use Rattle.daterange_line.specs.Reading.{cue_name, known_of, hexadecimal, fitting, is_id, is_date, is_signal, named, repeats, any, value_of, view_of, cue_of, digit_of, octets, section_of, fault, fine, judge, section_made, read_by, read_of, read_later}
+use Rattle.daterange_line.specs.Reading.{cue_name, known_of, hexadecimal, fitting, is_id, is_date, is_signal, named, repeats, any, value_of, view_of, cue_of, digit_of, octets, section_of, number_of, fault, fine, judge, section_made, read_by, read_of, read_later}
 use Rattle.daterange_writer.specs.Writing.{hex_digit, hex_of, attributes_for, line_of}
 use Rattle.daterange_line.specs.declared.Cue.{Cue}
 use Rattle.daterange_line.specs.declared.Cue.TheVariants.{Cmd, Out, In}
@@ -41,18 +41,19 @@ pub one_list : (line : List ℕ) (l m : List Attribute) → Line l line → Line
 one_list line l m h g = let e = line_exact line l h in let f = line_exact line m g in cc
 
 -- a line without a list, or with a fault: 52; one without a fault that lacks something: 51; any other is read
-pub refused_none : (line : List ℕ) → ((l : List Attribute) → Line l line → ⊥) → judge (attributes_of line) ≡ fault MalformedLine
+pub refused_none : (line : List ℕ) → ((l : List Attribute) → Line l line → ⊥) → (judge (attributes_of line) ≡ fault MalformedLine) × (number_of MalformedLine ≡ 52)
 unfolding judge
-refused_none line h = go (attributes_of line) refl
+refused_none line h = (go (attributes_of line) refl, refl)
   where
     go : (o : Option (List Attribute)) → attributes_of line ≡ o → judge o ≡ fault MalformedLine
     go None e = refl
     go (Some l) e = absurd (h l (line_sound line l e))
 
 pub judged_by : (line : List ℕ) (l : List Attribute) → Line l line
-    → judge (attributes_of line) ≡ pick (repeats l || not (all fitting l)) (fault MalformedLine) (pick (not (any is_id l && (any is_date l && any is_signal l))) (fault AttributeMissing) (fine l))
+    → (judge (attributes_of line) ≡ pick (repeats l || not (all fitting l)) (fault MalformedLine) (pick (not (any is_id l && (any is_date l && any is_signal l))) (fault AttributeMissing) (fine l)))
+    × (number_of MalformedLine ≡ 52) × (number_of AttributeMissing ≡ 51)
 unfolding judge
-judged_by line l h = rw (line_exact line l h)
+judged_by line l h = (rw (line_exact line l h), refl, refl)
 
 -- ---- views
 
@@ -190,8 +191,13 @@ not_51 l false false e = zero_one cc
 pub refused_52 : (line : List ℕ)
     → (judge (attributes_of line) ≡ fault MalformedLine → (l : List Attribute) → Line l line → repeats l || not (all fitting l) ≡ true)
     × (((l : List Attribute) → Line l line → repeats l || not (all fitting l) ≡ true) → judge (attributes_of line) ≡ fault MalformedLine)
+    × (number_of MalformedLine ≡ 52)
 unfolding judge
-refused_52 line = (λ e l h. not_51 l (repeats l || not (all fitting l)) (not (any is_id l && (any is_date l && any is_signal l))) (sym (judged_by line l h) ∙ e), λ h. go h (attributes_of line) refl)
+refused_52 line = (
+  λ e l h. not_51 l (repeats l || not (all fitting l)) (not (any is_id l && (any is_date l && any is_signal l))) (sym (judged_by line l h).0 ∙ e),
+  λ h. go h (attributes_of line) refl,
+  refl,
+)
   where
     go : ((l : List Attribute) → Line l line → repeats l || not (all fitting l) ≡ true) → (o : Option (List Attribute)) → attributes_of line ≡ o → judge o ≡ fault MalformedLine
     go h None e = refl

@@ -5,3 +5,4 @@ pub mod Looks
 pub mod Octets
 pub mod Values
 pub mod Answers
+pub mod Numbers

@@ -1,10 +1,12 @@
 -- The table of `EncryptionAlgorithm` is sound, so its numbers and its writable values are one to one.
-use Prim.Native.Nat.{ℕ}
+use Prim.Native.Nat.{ℕ, ◌≤◌}
 use mathlib.Core.Bool.{Bool, true, false, cond as pick}
 use mathlib.Core.Logic.{◌⊎◌, inl, inr}
 use mathlib.Core.Path.{◌≡◌, refl}
 use native.Mathlib.Omega.{arith}
-use lib.Dec.{ltb}
+use lib.Dec.{lit≤, ltb}
+use lib.ListN.{length}
+use denote.Enum.Declared.{tag_of}
 use Rattle.names.specs.declared.algorithm.EncryptionAlgorithm.{EncryptionAlgorithm}
 use Rattle.names.specs.declared.algorithm.EncryptionAlgorithm.TheVariants.{
   None,
@@ -16,6 +18,7 @@ use Rattle.names.specs.declared.algorithm.EncryptionAlgorithm.TheVariants.{
 }
 use Rattle.names.specs.Numbering.{class_in, reserved, private}
 use Rattle.names.specs.Algorithm.{algorithm_number, algorithms, algorithm_of, writable_algorithm}
+use Rattle.names.specs.contracts.algorithm.EncryptionAlgorithm.{the_type}
 use Rattle.names.proofs.Laws.{Name, Carried, Sound, Inverse, inverse}
 
 -- a number without a name is carried as it is, whichever range it lies in
@@ -31,17 +34,17 @@ own_private : (b : Bool) (n : ℕ) → class_in algorithms (pick b (Reserved n) 
 own_private true n e = absurd (omega arith)
 own_private false n e = refl
 
-split : (x : EncryptionAlgorithm) → Name algorithms x ⊎ Carried algorithms x
+split : (x : EncryptionAlgorithm) → Name algorithms x ⊎ (Carried algorithms x × (length algorithms.names ≤ tag_of the_type x))
 split None = inl (refl, refl)
 split DesEcb = inl (refl, refl)
 split DesCbc = inl (refl, refl)
 split TripleDesEde3Ecb = inl (refl, refl)
-split (Reserved n) = inr (λ e. omega arith, own_reserved (ltb n 32) n)
-split (Private n) = inr (λ e. omega arith, own_private (ltb n 32) n)
+split (Reserved n) = inr ((λ e. omega arith, own_reserved (ltb n 32) n), lit≤ tt)
+split (Private n) = inr ((λ e. omega arith, own_private (ltb n 32) n), lit≤ tt)
 
-pub sound : Sound algorithms
+pub sound : Sound algorithms (tag_of the_type)
 sound = record { carries = λ n. carried (ltb n 32) n; listed = refl; split = split }
 
 pub algorithm_laws : Inverse algorithm_number algorithm_of writable_algorithm
 unfolding algorithm_of writable_algorithm
-algorithm_laws = inverse algorithms sound
+algorithm_laws = inverse algorithms (tag_of the_type) sound

@@ -1,5 +1,5 @@
 -- Laws of every table, each proved once.
-use Prim.Native.Nat.{ℕ}
+use Prim.Native.Nat.{ℕ, ◌≤◌}
 use mathlib.Core.Bool.{Bool, true, false, ◌&&◌, cond as pick}
 use mathlib.Core.List.{List, [], ◌∷◌}
 use mathlib.Core.Logic.{◌⊎◌, ⊎_elim}
@@ -7,6 +7,7 @@ use mathlib.Core.Option.{none, some}
 use mathlib.Core.Path.{◌≡◌, refl, ap, sym, ◌∙◌}
 use native.Mathlib.Omega.{arith}
 use lib.Dec.{eqb}
+use lib.ListN.{length}
 use borrow.Author.Tests.{eqb-true, eq-eqb, ne_eqb}
 use Rattle.names.specs.Numbering.{Numbering, number_in, class_in, named, name_of, or, value_of, writable}
 
@@ -47,10 +48,11 @@ abbrev pub all_named : {A : Type 0} → (A → ℕ) → List A → Bool
 all_named class [] = true
 all_named class (x ∷ xs) = eqb (class x) named && all_named class xs
 
-pub record Sound {A : Type 0} (T : Numbering A) : Type 0 where
+-- `tag` counts the variants in the order of the declaration, the names first
+pub record Sound {A : Type 0} (T : Numbering A) (tag : A → ℕ) : Type 0 where
   pub carries : (n : ℕ) → number_in T (T.others n) ≡ n
   pub listed : all_named (class_in T) T.names ≡ true
-  pub split : (x : A) → Name T x ⊎ Carried T x
+  pub split : (x : A) → Name T x ⊎ (Carried T x × (length T.names ≤ tag x))
 
 -- ---- what every enum then has
 pub record Inverse {A : Type 0} (number : A → ℕ) (value : ℕ → A) (writable : A → Bool) : Type 0 where
@@ -86,7 +88,7 @@ module _ {A : Type 0} (number : A → ℕ) (n : ℕ) (y : A) where
       go true k r = absurd (k (eqb-true (class x) named (and_left (eqb (class x) named) (all_named class xs) t)))
       go false k r = r k
 
-module _ {A : Type 0} (T : Numbering A) (s : Sound T) where
+module _ {A : Type 0} (T : Numbering A) (tag : A → ℕ) (s : Sound T tag) where
   carried_back : (x : A) → Carried T x → writable T x ≡ true → value_of T (number_in T x) ≡ x
   carried_back x c f =
       let n = number_in T x in
@@ -102,7 +104,7 @@ module _ {A : Type 0} (T : Numbering A) (s : Sound T) where
   number_there n = found (number_in T) n (T.others n) (s.carries n) T.names
 
   writable_back : (x : A) → writable T x ≡ true → value_of T (number_in T x) ≡ x
-  writable_back x f = ⊎_elim (λ m. m.0) (λ c. carried_back x c f) (s.split x)
+  writable_back x f = ⊎_elim (λ m. m.0) (λ c. carried_back x c.0 f) (s.split x)
 
   pub inverse : Inverse (number_in T) (value_of T) (writable T)
   inverse =

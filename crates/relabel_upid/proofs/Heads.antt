@@ -159,7 +159,7 @@ module _ (s : List ℕ) (behind at : ℕ) (r : Rest at (drop at s) (drop behind 
     pub complete : (at + 2 + get_or s (at + 1) 0 ≤ length s) × (at + 2 ≤ next_head s at) × (next_head s at ≤ at + 2 + get_or s (at + 1) 0)
     complete = let n = next_bounds (eqb (get_or s at 0) 13) at (get_or s (at + 1) 0) in (here.inside, n.0, n.1)
 
-    one_is : nth s behind ≡ here.q
+    pub one_is : nth s behind ≡ here.q
     one_is =
         let z : behind ≡ behind + 0 = omega arith in
         ap (λ (j : ℕ). get_or (heads s) j blank_part) z ∙ sym (get_or-drop behind (heads s) 0 blank_part) ∙ ap (λ (ps : List Part). get_or ps 0 blank_part) here.is

@@ -2,13 +2,13 @@
 ghost use Rattle.std.specs.Prelude.{◌≡◌, drop};
 ghost use Rattle.daterange.specs.Choice.{daterange_made};
 ghost use Rattle.daterange_line.specs.Reading.{read_of, read_later};
-ghost use Rattle.c_daterange.specs.FlatDaterange.{flat_daterange};
+ghost use Rattle.c_daterange.specs.FlatDaterange.{flat_line};
 ghost use Rattle.c_command_writer.specs.Words.{flat_written};
 ghost use Rattle.bit_stores.specs.Written.{answer_of, later_of};
 
 use crate::rest;
 use c_command_writer::{FlatWritten, flat_written};
-use c_daterange::{FlatDaterange, flat_daterange};
+use c_daterange::{FlatDaterange, flat_line};
 use daterange::write_daterange;
 use daterange_line::read_line;
 
@@ -30,8 +30,8 @@ pub extern "C" fn scte35_write_daterange(
 // What the line says that is all bytes from the offset on; the section's bytes go into the target.
 #[unsafe(no_mangle)]
 pub extern "C" fn scte35_read_daterange(line: &[u8], at: usize, target: &mut [u8]) -> FlatDaterange
-    ensures answer { result ≡ flat_daterange (read_of (drop at line.now) target.old) }
+    ensures answer { result ≡ flat_line (read_of (drop at line.now) target.old) }
     ensures bytes { target.new ≡ read_later (drop at line.now) target.old }
 {
-    flat_daterange(read_line(rest(line, at), target))
+    flat_line(read_line(rest(line, at), target))
 }

@@ -29,7 +29,7 @@ pub fn put_number(out: &mut [u8], at: usize, n: usize, v: u64)
     }
 }
 
-// Lent bytes.
+// Lent bytes. (Byte by byte, which the compiler makes a copy of two slices that can't overlap: with `copy_from_slice` the archive would ask for `memmove`.)
 pub fn put_bytes(out: &mut [u8], at: usize, src: &[u8])
     ensures { out.new ≡ stored out.old at src.now }
 {
@@ -39,5 +39,7 @@ pub fn put_bytes(out: &mut [u8], at: usize, src: &[u8])
     if out.len() - at < src.len() {
         return;
     }
-    out[at..at + src.len()].copy_from_slice(src);
+    for i in 0..src.len() {
+        out[at + i] = src[i];
+    }
 }

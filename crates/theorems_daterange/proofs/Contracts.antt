@@ -6,14 +6,15 @@ use lib.ListN.{drop}
 use Rattle.bit_stores.specs.Written.{answer_of, later_of}
 use Rattle.c_command_writer.specs.Words.{flat_written}
 use Rattle.c_command_writer.specs.declared.FlatWritten.{FlatWritten}
-use Rattle.c_daterange.specs.FlatDaterange.{flat_daterange}
+use Rattle.c_daterange.specs.FlatDaterange.{flat_line}
 use Rattle.c_daterange.specs.declared.FlatDaterange.{FlatDaterange}
 use Rattle.daterange.specs.Choice.{daterange_made}
-use Rattle.daterange_line.specs.Reading.{read_of, read_later}
+use Rattle.daterange_line.specs.Reading.{number_of, read_of, read_later}
 use Rattle.daterange_line.specs.declared.Cue.{Cue}
 use Rattle.daterange_writer.specs.Writing.{line_made}
 use Rattle.theorems_c.specs.Boards.{May}
 use Rattle.daterange.proofs.write_daterange.Reads as write_daterange
+use Rattle.daterange_line.proofs.LineRefusal.number.Reads as line_number
 use Rattle.daterange_line.proofs.read_line.Reads as read_line
 use Rattle.daterange_writer.proofs.write_line.Reads as write_line
 use Rattle.scte35.proofs.playlist.scte35_read_daterange.Reads as scte35_read_daterange
@@ -78,6 +79,13 @@ reads_line_so d = (
   sym (ap (λ (v : Result Reading LineRefusal × List ℕ). v.1) d.left) ∙ d.learnt_so.1 ∙ ap (λ (v : List ℕ × List ℕ). read_later v.0 v.1) d.taken,
 )
 
+-- `LineRefusal::number`
+abbrev pub Numbers : LineRefusal → ℕ → Type 0
+Numbers r n = May line_number.Learnt {S = LineRefusal} {T = ℕ} (λ κ a. a.0) (λ κ x e. x) r n
+
+pub numbers_so : {r : LineRefusal} {n : ℕ} → Numbers r n → n ≡ number_of r
+numbers_so d = sym d.left ∙ d.learnt_so ∙ ap number_of d.taken
+
 -- the line is all bytes from an offset on
 abbrev pub ReadsDaterangeC : List ℕ → List ℕ → FlatDaterange → List ℕ → Type 0
 ReadsDaterangeC line target answer later =
@@ -85,8 +93,8 @@ ReadsDaterangeC line target answer later =
     (line, target) (answer, later)
 
 pub reads_daterange_c_so : {line target : List ℕ} {answer : FlatDaterange} {later : List ℕ} → ReadsDaterangeC line target answer later
-    → (answer ≡ flat_daterange (read_of line target)) × (later ≡ read_later line target)
+    → (answer ≡ flat_line (read_of line target)) × (later ≡ read_later line target)
 reads_daterange_c_so d = (
-  sym (ap (λ (v : FlatDaterange × List ℕ). v.0) d.left) ∙ d.learnt_so.0 ∙ ap (λ (v : List ℕ × List ℕ). flat_daterange (read_of v.0 v.1)) d.taken,
+  sym (ap (λ (v : FlatDaterange × List ℕ). v.0) d.left) ∙ d.learnt_so.0 ∙ ap (λ (v : List ℕ × List ℕ). flat_line (read_of v.0 v.1)) d.taken,
   sym (ap (λ (v : FlatDaterange × List ℕ). v.1) d.left) ∙ d.learnt_so.1 ∙ ap (λ (v : List ℕ × List ℕ). read_later v.0 v.1) d.taken,
 )

@@ -253,29 +253,29 @@ complete l n = go (has l) refl
 
 module _ (line target : List ℕ) where
   fine_so : (l : List Attribute) → Line l line → (Faulty l → ⊥) → (Lacking l → ⊥) → judge (attributes_of line) ≡ fine l
-  fine_so l h f n = judged_by line l h ∙ rw (sound l f, complete l n)
+  fine_so l h f n = (judged_by line l h).0 ∙ rw (sound l f, complete l n)
 
   pub answer_is : {answer : Result Reading LineRefusal} {later : List ℕ} → LineRead line target answer later → (answer ≡ read_of line target) × (later ≡ read_later line target)
   unfolding read_by section_made answer_of later_of
-  answer_is (LineRead.unlisted n) = let j = refused_none line n in (rw j, rw j)
-  answer_is (LineRead.faulty l h f) = let j : judge (attributes_of line) ≡ fault MalformedLine = judged_by line l h ∙ rw (faulty_so l f) in (rw j, rw j)
-  answer_is (LineRead.lacking l h f n) = let j : judge (attributes_of line) ≡ fault AttributeMissing = judged_by line l h ∙ rw (sound l f, lacking_so l n) in (rw j, rw j)
-  answer_is (LineRead.short l h f n s) = let j = fine_so l h f n in let k = lt-leb (length (section_of l)) (length target) s in (rw (j, k), rw (j, k))
+  answer_is (LineRead.unlisted n i) = let j = (refused_none line n).0 in (rw j, rw j)
+  answer_is (LineRead.faulty l h f i) = let j : judge (attributes_of line) ≡ fault MalformedLine = (judged_by line l h).0 ∙ rw (faulty_so l f) in (rw j, rw j)
+  answer_is (LineRead.lacking l h f n i) = let j : judge (attributes_of line) ≡ fault AttributeMissing = (judged_by line l h).0 ∙ rw (sound l f, lacking_so l n) in (rw j, rw j)
+  answer_is (LineRead.short l h f n s i) = let j = fine_so l h f n in let k = lt-leb (length (section_of l)) (length target) s in (rw (j, k), rw (j, k))
   answer_is (LineRead.its l h f n s) = let j = fine_so l h f n in let k = le-leb (length (section_of l)) (length target) s in (rw (j, k), rw (j, k))
 
   answered : (answer : Result Reading LineRefusal) × (later : List ℕ) × LineRead line target answer later
   answered = go (attributes_of line) refl
     where
       judged : (l : List Attribute) → Line l line → (a : Bool) → faults l ≡ a → (b : Bool) → has l ≡ b → (answer : Result Reading LineRefusal) × (later : List ℕ) × LineRead line target answer later
-      judged l h true f b n = (_, _, LineRead.faulty l h (faulty_if l f))
-      judged l h false f false n = (_, _, LineRead.lacking l h (λ x. let z = faulty_so l x in zero_one cc) (lacking_if l n))
+      judged l h true f b n = (_, _, LineRead.faulty l h (faulty_if l f) refl)
+      judged l h false f false n = (_, _, LineRead.lacking l h (λ x. let z = faulty_so l x in zero_one cc) (lacking_if l n) refl)
       judged l h false f true n =
           let none : Faulty l → ⊥ = λ x. let z = faulty_so l x in zero_one cc in
           let all : Lacking l → ⊥ = λ x. let z = lacking_so l x in zero_one cc in
-          by_cases (length target) (length (section_of l)) (λ s. (_, _, LineRead.short l h none all s)) (λ s. (_, _, LineRead.its l h none all s))
+          by_cases (length target) (length (section_of l)) (λ s. (_, _, LineRead.short l h none all s refl)) (λ s. (_, _, LineRead.its l h none all s))
 
       go : (o : Option (List Attribute)) → attributes_of line ≡ o → (answer : Result Reading LineRefusal) × (later : List ℕ) × LineRead line target answer later
-      go None e = (_, _, LineRead.unlisted (λ l h. let z = line_exact line l h in zero_one cc))
+      go None e = (_, _, LineRead.unlisted (λ l h. let z = line_exact line l h in zero_one cc) refl)
       go (Some l) e = judged l (line_sound line l e) (faults l) refl (has l) refl
 
   pub reads_so : {answer : Result Reading LineRefusal} {later : List ℕ} → answer ≡ read_of line target → later ≡ read_later line target → LineRead line target answer later

@@ -10,7 +10,7 @@ use lib.ListN.{length, take}
 use Rattle.attribute_list.specs.Grammar.{all, quoted_byte, Attribute}
 use Rattle.bit_stores.specs.Written.{answer_of, later_of}
 use Rattle.c_command_writer.specs.Words.{flat_written}
-use Rattle.c_daterange.specs.FlatDaterange.{flat_numbered, flat_daterange}
+use Rattle.c_daterange.specs.FlatDaterange.{flat_daterange, flat_line}
 use Rattle.c_daterange.specs.declared.FlatDaterange.{FlatDaterange}
 use Rattle.daterange.specs.Choice.{cue_for, made_for, daterange_made}
 use Rattle.daterange_laws.proofs.Cues.{SameCue, accepted_write_reads_back}
@@ -173,10 +173,10 @@ as_answered cue q line target answer later e l b =
 
 -- the same over C
 pub over_c : (cue : Cue) (q : Cued) (line target : List ℕ) (answer : FlatDaterange) (later : List ℕ) → ReadsBack cue q line target (read_of line target) (read_later line target)
-    → answer ≡ flat_daterange (read_of line target) → later ≡ read_later line target → ReadsBackC cue q line target answer later
-unfolding flat_numbered flat_daterange
+    → answer ≡ flat_line (read_of line target) → later ≡ read_later line target → ReadsBackC cue q line target answer later
+unfolding flat_daterange flat_line
 over_c cue q line target answer later b e l =
-    let z = e ∙ ap flat_daterange b.says in
+    let z = e ∙ ap flat_line b.says in
     record {
       refusal = ap (λ (f : FlatDaterange). f.refusal) z;
       same_id = ap (λ (f : FlatDaterange). viewed line (record { at = f.id.at; len = f.id.len })) z ∙ b.same_id;
@@ -202,7 +202,7 @@ kept line target r = go (judge (attributes_of line))
         let w = told_refused l (answer_of (made (inLine l)) target) r e in
         a_refused_write_changes_no_byte (made (inLine l)) target w.0 w.1
 
-pub refused_read : (r : Result Reading LineRefusal) → ((flat_daterange r).refusal ≡ 0 → ⊥) → (n : LineRefusal) × (r ≡ Err n)
-unfolding flat_numbered flat_daterange
+pub refused_read : (r : Result Reading LineRefusal) → ((flat_line r).refusal ≡ 0 → ⊥) → (n : LineRefusal) × (r ≡ Err n)
+unfolding flat_daterange flat_line
 refused_read (Ok x) h = absurd (h refl)
 refused_read (Err n) h = (n, refl)

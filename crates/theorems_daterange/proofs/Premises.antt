@@ -6,14 +6,15 @@ use denote.Ref.{Bor}
 use denote.MutBor.{MutBor}
 use Rattle.bit_stores.specs.Written.{answer_of, later_of}
 use Rattle.c_command_writer.specs.Words.{flat_written}
-use Rattle.c_daterange.specs.FlatDaterange.{flat_daterange}
+use Rattle.c_daterange.specs.FlatDaterange.{flat_line}
 use Rattle.daterange.specs.Choice.{daterange_made}
-use Rattle.daterange_line.specs.Reading.{read_of, read_later}
+use Rattle.daterange_line.specs.Reading.{number_of, read_of, read_later}
 use Rattle.daterange_line.specs.declared.Cue.{Cue}
+use Rattle.daterange_line.specs.declared.LineRefusal.{LineRefusal}
 use Rattle.daterange_writer.specs.Writing.{line_made}
 use Rattle.table.specs.Writing.{Made}
 use Rattle.theorems_daterange.specs.Lines.{Cued}
-use Rattle.theorems_daterange.proofs.Contracts.{WritesLine, WritesDaterange, WritesDaterangeC, ReadsLine, ReadsDaterangeC}
+use Rattle.theorems_daterange.proofs.Contracts.{WritesLine, WritesDaterange, WritesDaterangeC, ReadsLine, Numbers, ReadsDaterangeC}
 
 abbrev slice : List ℕ → Bor (List ℕ)
 slice s = record { ref_ptr = (0, 0); now = s }
@@ -75,13 +76,16 @@ read_line_is_met line target = record {
   learnt_so = (refl, refl);
 }
 
-pub scte35_read_daterange_is_met : (line target : List ℕ) → ReadsDaterangeC line target (flat_daterange (read_of line target)) (read_later line target)
+pub scte35_read_daterange_is_met : (line target : List ℕ) → ReadsDaterangeC line target (flat_line (read_of line target)) (read_later line target)
 scte35_read_daterange_is_met line target = record {
   κ = ([], ([], tt));
   arguments = (slice line, (0, (target_of target, tt)));
-  answer = flat_daterange (read_of line target);
+  answer = flat_line (read_of line target);
   after = (slice line, (0, (target_of (read_later line target), tt)));
   taken = refl;
   left = refl;
   learnt_so = (refl, refl);
 }
+
+pub line_number_is_met : (r : LineRefusal) → Numbers r (number_of r)
+line_number_is_met r = record { κ = tt; arguments = (r, tt); answer = number_of r; after = (r, tt); taken = refl; left = refl; learnt_so = refl }

@@ -6,7 +6,7 @@ use mathlib.Core.Path.{◌≡◌, refl, sym, ◌∙◌, ap}
 use lib.ListN.{length, take}
 use Rattle.bit_stores.specs.Written.{answer_of}
 use Rattle.c_command_writer.specs.declared.FlatWritten.{FlatWritten}
-use Rattle.c_daterange.specs.FlatDaterange.{flat_daterange}
+use Rattle.c_daterange.specs.FlatDaterange.{flat_line}
 use Rattle.c_daterange.specs.declared.FlatDaterange.{FlatDaterange}
 use Rattle.daterange.specs.Choice.{cue_for, daterange_made}
 use Rattle.daterange_line.specs.Reading.{read_of}
@@ -20,12 +20,13 @@ use Rattle.theorems_reader.proofs.Theorems as reading
 use Rattle.theorems_writer.proofs.Theorems as writing
 use Rattle.theorems_daterange.specs.Faults.{LineRead}
 use Rattle.theorems_daterange.specs.Lines.{Cued, line_answered, ReadsBack, ReadsBackC}
-use Rattle.theorems_daterange.proofs.Contracts.{WritesLine, writes_line_so, WritesDaterange, writes_daterange_so, WritesDaterangeC, writes_daterange_c_so, ReadsLine, reads_line_so, ReadsDaterangeC, reads_daterange_c_so}
+use Rattle.theorems_daterange.proofs.Contracts.{WritesLine, writes_line_so, WritesDaterange, writes_daterange_so, WritesDaterangeC, writes_daterange_c_so, ReadsLine, reads_line_so, Numbers, numbers_so, ReadsDaterangeC, reads_daterange_c_so}
 use Rattle.theorems_daterange.proofs.Faults as faults
 use Rattle.theorems_daterange.proofs.Lines as lines
 use Rattle.std.specs.Prelude.{Result, Err}
 use Rattle.daterange_line.specs.declared.Reading.{Reading}
 use Rattle.daterange_line.specs.declared.LineRefusal.{LineRefusal}
+use Rattle.daterange_line.specs.declared.LineRefusal.TheVariants.{MalformedLine, AttributeMissing, TargetTooShort}
 use Rattle.std.proofs.Common.{Ok}
 
 -- ---- which answer: "1 to 11 for the section; 53 an ID or date holding a double quote, CR or LF; 36"; nothing else is refused
@@ -49,13 +50,17 @@ an_accepted_section_has_a_line q x target answer later d e =
 pub read_line_answers_in_order : (line target : List ℕ) (answer : Result Reading LineRefusal) (later : List ℕ) → ReadsLine line target answer later → LineRead line target answer later
 read_line_answers_in_order line target answer later d = faults.reads_so line target (reads_line_so d).0 (reads_line_so d).1
 
+-- whose numbers are what `number` answers of them
+pub a_line_is_refused_with_52_51_or_36 : (n : ℕ) → (Numbers MalformedLine n → n ≡ 52) × (Numbers AttributeMissing n → n ≡ 51) × (Numbers TargetTooShort n → n ≡ 36)
+a_line_is_refused_with_52_51_or_36 n = (λ d. numbers_so d, λ d. numbers_so d, λ d. numbers_so d)
+
 -- and that leaves one answer, and one target
 pub a_line_is_read_in_one_way : (line target : List ℕ) (a b : Result Reading LineRefusal) (x y : List ℕ) → LineRead line target a x → LineRead line target b y → (a ≡ b) × (x ≡ y)
 a_line_is_read_in_one_way = faults.reads_one
 
 -- the same over C, whose words are those of what was read, or the refusal's number and zeros
 pub read_line_over_c_answers_in_order : (line target : List ℕ) (f : FlatDaterange) (later : List ℕ) → ReadsDaterangeC line target f later
-    → (answer : Result Reading LineRefusal) × (f ≡ flat_daterange answer) × LineRead line target answer later
+    → (answer : Result Reading LineRefusal) × (f ≡ flat_line answer) × LineRead line target answer later
 read_line_over_c_answers_in_order line target f later d = (read_of line target, (reads_daterange_c_so d).0, faults.reads_so line target refl (reads_daterange_c_so d).1)
 
 -- ---- what is written reads back: the same ID and date, and the very bytes of the section, by any reader that meets its contract and has room for them

@@ -8,12 +8,17 @@ use mathlib.Core.Path.{◌≡◌, refl, ap, sym, ◌∙◌}
 use native.Mathlib.Omega.{arith}
 use lib.Dec.{eqb, ltb}
 use borrow.Author.Tests.{eqb-true}
+use denote.Enum.Declared.{tag_of}
 use Rattle.descriptor.specs.Segmentation.{device_of}
 use Rattle.names.proofs.Algorithms as algorithm
 use Rattle.names.proofs.Commands as command
 use Rattle.names.proofs.Laws.{Sound, all_named, inverse}
 use Rattle.names.proofs.Segmentations as segmentation
 use Rattle.names.proofs.Upids as upid
+use Rattle.names.specs.contracts.algorithm.EncryptionAlgorithm as declared_algorithm
+use Rattle.names.specs.contracts.command.SpliceCommandType as declared_command
+use Rattle.names.specs.contracts.segmentation.SegmentationTypeId as declared_segmentation
+use Rattle.names.specs.contracts.upid.SegmentationUpidType as declared_upid
 use Rattle.names.specs.Algorithm.{algorithm_entry, other_algorithm, algorithms, algorithm_of, writable_algorithm}
 use Rattle.names.specs.Command.{command_entry, commands, command_type_of, writable_command}
 use Rattle.names.specs.Flags.{restrictions_bits, restrictions_of}
@@ -52,9 +57,9 @@ module _ {A : Type 0} (number class : A → ℕ) (n : ℕ) where
       go false t later = later
 
 -- ---- one law over the table. A number without a name stands for a value that is no name
-module _ {A : Type 0} (T : Numbering A) (s : Sound T) (carried : (n : ℕ) → class_in T (T.others n) ≡ named → ⊥) where
+module _ {A : Type 0} (T : Numbering A) (tag : A → ℕ) (s : Sound T tag) (carried : (n : ℕ) → class_in T (T.others n) ≡ named → ⊥) where
   name_back : (x : A) → class_in T x ≡ named → value_of T (number_in T x) ≡ x
-  name_back x e = ⊎_elim (λ m. m.0) (λ c. absurd (c.0 e)) (s.split x)
+  name_back x e = ⊎_elim (λ m. m.0) (λ c. absurd (c.0.0 e)) (s.split x)
 
   by_table : GoesBy T.entry T.others (value_of T)
   by_table = record { names = name_back; rest = λ n h. ap (λ o. or o (T.others n)) (missing (number_in T) (class_in T) n T.names s.listed h) }
@@ -75,7 +80,7 @@ module _ {A : Type 0} (T : Numbering A) (s : Sound T) (carried : (n : ℕ) → c
           ap f (sym h.0) ∙ g.names x h.1
 
   only_by_table : OnlyBy T.entry T.others (value_of T) (writable T)
-  only_by_table = let i = inverse T s in record { goes = by_table; only = one_value; own = i.back; writably = i.only }
+  only_by_table = let i = inverse T tag s in record { goes = by_table; only = one_value; own = i.back; writably = i.only }
 
 -- ---- the four tables
 algorithm_carried : (b : Bool) (n : ℕ) → class_in algorithms (pick b (EncryptionAlgorithm.Reserved n) (EncryptionAlgorithm.Private n)) ≡ named → ⊥
@@ -84,19 +89,19 @@ algorithm_carried false n e = omega arith
 
 pub algorithms_by : OnlyBy algorithm_entry other_algorithm algorithm_of writable_algorithm
 unfolding algorithm_of writable_algorithm
-algorithms_by = only_by_table algorithms algorithm.sound (λ n e. algorithm_carried (ltb n 32) n e)
+algorithms_by = only_by_table algorithms (tag_of declared_algorithm.the_type) algorithm.sound (λ n e. algorithm_carried (ltb n 32) n e)
 
 pub commands_by : OnlyBy command_entry SpliceCommandType.Reserved command_type_of writable_command
 unfolding command_type_of writable_command
-commands_by = only_by_table commands command.sound (λ n e. omega arith)
+commands_by = only_by_table commands (tag_of declared_command.the_type) command.sound (λ n e. omega arith)
 
 pub upid_types_by : OnlyBy upid_type_entry SegmentationUpidType.Reserved upid_type_of writable_upid_type
 unfolding upid_type_of writable_upid_type
-upid_types_by = only_by_table upid_types upid.sound (λ n e. omega arith)
+upid_types_by = only_by_table upid_types (tag_of declared_upid.the_type) upid.sound (λ n e. omega arith)
 
 pub segmentations_by : OnlyBy segmentation_entry SegmentationTypeId.Reserved segmentation_type_of writable_segmentation
 unfolding segmentation_type_of writable_segmentation
-segmentations_by = only_by_table segmentations segmentation.sound (λ n e. omega arith)
+segmentations_by = only_by_table segmentations (tag_of declared_segmentation.the_type) segmentation.sound (λ n e. omega arith)
 
 -- ---- device_restrictions: each number of two bits has a name
 pub device_by : (d : DeviceRestrictions) → device_of (restrictions_bits d) ≡ d

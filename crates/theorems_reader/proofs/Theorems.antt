@@ -24,11 +24,13 @@ use Rattle.splice_time.specs.Time.{adjusted_of, too_large}
 use Rattle.splice_time.specs.declared.SpliceTime.{SpliceTime}
 use Rattle.descriptor_loop.specs.Cover.{Ends, TakesRest, Covered, times}
 use Rattle.descriptor_loop.specs.Items.{step_of, reading_of, items_of}
-use Rattle.names.specs.Algorithm.{algorithm_entry, other_algorithm, algorithm_of, writable_algorithm}
-use Rattle.names.specs.Command.{command_entry, command_type_of, writable_command}
+use Rattle.names.specs.Algorithm.{algorithms, algorithm_entry, other_algorithm, algorithm_of, writable_algorithm}
+use Rattle.names.specs.Command.{commands, command_entry, command_type_of, writable_command}
 use Rattle.names.specs.Flags.{restrictions_bits}
-use Rattle.names.specs.Segmentation.{segmentation_entry, segmentation_type_of, writable_segmentation}
-use Rattle.names.specs.Upid.{upid_type_entry, upid_type_of, writable_upid_type}
+use Rattle.names.specs.Numbering.{class_in}
+use Rattle.names.specs.Segmentation.{segmentations, segmentation_entry, segmentation_type_of, writable_segmentation}
+use Rattle.names.specs.Upid.{upid_types, upid_type_entry, upid_type_of, writable_upid_type}
+use Rattle.names.specs.declared.algorithm.EncryptionAlgorithm.{EncryptionAlgorithm}
 use Rattle.names.specs.declared.command.SpliceCommandType.{SpliceCommandType}
 use Rattle.names.specs.declared.flags.DeviceRestrictions.{DeviceRestrictions}
 use Rattle.names.specs.declared.segmentation.SegmentationTypeId.{SegmentationTypeId}
@@ -211,6 +213,11 @@ upid_types_go_by_their_table = numbers.upid_types_by
 
 pub segmentation_types_go_by_their_table : OnlyBy segmentation_entry SegmentationTypeId.Reserved segmentation_type_of writable_segmentation
 segmentation_types_go_by_their_table = numbers.segmentations_by
+
+-- and the class of a value is that of its line there
+pub classes_go_by_their_entries : ((x : EncryptionAlgorithm) → class_in algorithms x ≡ (algorithm_entry x).1) × ((x : SpliceCommandType) → class_in commands x ≡ (command_entry x).1)
+    × ((x : SegmentationUpidType) → class_in upid_types x ≡ (upid_type_entry x).1) × ((x : SegmentationTypeId) → class_in segmentations x ≡ (segmentation_entry x).1)
+classes_go_by_their_entries = (λ x. refl, λ x. refl, λ x. refl, λ x. refl)
 
 -- of device_restrictions each number of two bits has a name
 pub device_restrictions_go_by_their_numbers : (d : DeviceRestrictions) → device_of (restrictions_bits d) ≡ d

@@ -2,7 +2,7 @@
 -- `..-so` is what the contract then says of it.
 use Prim.Native.Nat.{ℕ}
 use mathlib.Core.List.{List}
-use mathlib.Core.Path.{◌≡◌, sym, ◌∙◌, ap, ap₂}
+use mathlib.Core.Path.{◌≡◌, refl, sym, ◌∙◌, ap, ap₂}
 use lib.ListN.{drop}
 use Rattle.std.specs.Prelude.{Option, Result}
 use Rattle.adjust.specs.Adjust.{adjust_of, chain_of, undo_of}
@@ -19,7 +19,6 @@ use Rattle.scte35.specs.FlatNumber.{time_handed}
 use Rattle.splice_time.specs.Time.{adjusted_of}
 use Rattle.splice_time.specs.declared.SpliceTime.{SpliceTime}
 use Rattle.transport.specs.Assembler.{answering, giving, fresh_assembler, fed_of, fed_answer, fed_state, taken_of}
-use Rattle.transport.proofs.Answers.{fed_one}
 use Rattle.transport.specs.declared.Assembler.{Assembler}
 use Rattle.transport_packet.specs.Packet.{Head, head_of}
 use Rattle.transport_packet.specs.declared.packet.Refusal.{Refusal}
@@ -41,7 +40,7 @@ use Rattle.scte35.proofs.packet.scte35_packet_feed.Reads as scte35_packet_feed
 use Rattle.scte35.proofs.packet.scte35_packet_start.Reads as scte35_packet_start
 use Rattle.scte35.proofs.packet.scte35_packet_take.Reads as scte35_packet_take
 use Rattle.scte35.proofs.scte35_adjust_time.Reads as scte35_adjust_time
-use Rattle.std.proofs.Common.{Option, Result}
+use Rattle.std.proofs.Common.{Option, Result, Ok, Err}
 use Rattle.splice_time.specs.declared.TooLarge.{TooLarge}
 
 -- ---- times and adjustments
@@ -142,24 +141,35 @@ pub starts_so : {pid : ℕ} {a : Assembler} → Starts pid a → a ≡ fresh_ass
 starts_so d = sym d.left ∙ d.learnt_so ∙ ap fresh_assembler d.taken
 
 -- `feed` and `take` of an assembler, a packet and a buffer: the answer with the assembler after it, and the buffer's later bytes
-abbrev pub Feeds : Assembler → List ℕ → List ℕ → Result Assembler Refusal → List ℕ → Type 0
-Feeds a p b answer later =
+abbrev pub Feeds : Assembler → List ℕ → List ℕ → Result (Unit {0}) Refusal × Assembler → List ℕ → Type 0
+Feeds a p b left later =
     May feed.Learnt {S = Assembler × (List ℕ × List ℕ)} {T = (Result (Unit {0}) Refusal × Assembler) × List ℕ} (λ κ x. (x.0.now, (x.1.0.now, x.1.1.0.now)))
-    (λ κ r e. ((r, e.0.now), e.1.1.0.now)) (a, (p, b)) ((fed_answer answer, fed_state a answer), later)
+    (λ κ r e. ((r, e.0.now), e.1.1.0.now)) (a, (p, b)) (left, later)
 
-pub feeds_so : {a : Assembler} {p b : List ℕ} {answer : Result Assembler Refusal} {later : List ℕ} → Feeds a p b answer later → answering answer later ≡ fed_of a p b
-feeds_so {a = a} {p = p} {b = b} {answer = answer} {later = later} d =
+-- the two as one answer: a refusal has no assembler
+abbrev pub fed_as : Result (Unit {0}) Refusal × Assembler → Result Assembler Refusal
+fed_as (Ok u, later) = Ok later
+fed_as (Err r, later) = Err r
+
+pub as_fed : (a : Assembler) (k : Result Assembler Refusal) → fed_as (fed_answer k, fed_state a k) ≡ k
+as_fed a (Ok later) = refl
+as_fed a (Err r) = refl
+
+pub feeds_so : {a : Assembler} {p b : List ℕ} {left : Result (Unit {0}) Refusal × Assembler} {later : List ℕ} → Feeds a p b left later
+    → (answering (fed_as left) later ≡ fed_of a p b) × (left.1 ≡ fed_state a (fed_as left))
+feeds_so {a = a} {p = p} {b = b} {left = left} {later = later} d =
     let k = fed_of a p b in
-    let x : fed_answer answer ≡ fed_answer k.answer =
+    let x : left.0 ≡ fed_answer k.answer =
     sym (ap (λ (v : (Result (Unit {0}) Refusal × Assembler) × List ℕ). v.0.0) d.left) ∙ d.learnt_so.0
     ∙ ap (λ (v : Assembler × (List ℕ × List ℕ)). fed_answer (fed_of v.0 v.1.0 v.1.1).answer) d.taken in
-    let y : fed_state a answer ≡ fed_state a k.answer =
+    let y : left.1 ≡ fed_state a k.answer =
     sym (ap (λ (v : (Result (Unit {0}) Refusal × Assembler) × List ℕ). v.0.1) d.left) ∙ d.learnt_so.1.0
     ∙ ap (λ (v : Assembler × (List ℕ × List ℕ)). fed_state v.0 (fed_of v.0 v.1.0 v.1.1).answer) d.taken in
     let z : later ≡ k.buffer =
     sym (ap (λ (v : (Result (Unit {0}) Refusal × Assembler) × List ℕ). v.1) d.left) ∙ d.learnt_so.1.1
     ∙ ap (λ (v : Assembler × (List ℕ × List ℕ)). (fed_of v.0 v.1.0 v.1.1).buffer) d.taken in
-    ap₂ answering (fed_one a answer k.answer x y) z
+    let w : fed_as left ≡ k.answer = ap₂ (λ (r : Result (Unit {0}) Refusal) (s : Assembler). fed_as (r, s)) x y ∙ as_fed a k.answer in
+    (ap₂ answering w z, y ∙ ap (fed_state a) (sym w))
 
 abbrev pub Takes : Assembler → List ℕ → List ℕ → Option ℕ × Assembler → List ℕ → Type 0
 Takes a p b answer later =

@@ -38,7 +38,7 @@ use Rattle.theorems_requests.specs.Adjustments.{TimeOverC, ChainedOverC, UndoneO
 use Rattle.theorems_requests.specs.Packets.{refusal_number, unrefused_of, step_numbers, Zeros, words_of}
 use Rattle.theorems_requests.specs.Sections.{adjust_answered, AdjustedTo, flat_with}
 use Rattle.theorems_requests.proofs.Adjustments as adjustments
-use Rattle.theorems_requests.proofs.Contracts.{MovesTimeC, moves_time_c_so, AdjustsTimeC, adjusts_time_c_so, ChainsC, chains_c_so, UndoesC, undoes_c_so, AdjustsSectionC, adjusts_section_c_so, ReadsHead, Starts, Feeds, feeds_so, StartsC, starts_c_so, FeedsC, feeds_c_so}
+use Rattle.theorems_requests.proofs.Contracts.{fed_as, as_fed, MovesTimeC, moves_time_c_so, AdjustsTimeC, adjusts_time_c_so, ChainsC, chains_c_so, UndoesC, undoes_c_so, AdjustsSectionC, adjusts_section_c_so, ReadsHead, Starts, Feeds, feeds_so, StartsC, starts_c_so, FeedsC, feeds_c_so}
 use Rattle.theorems_requests.proofs.Premises.{fresh_is_met, feed_is_met}
 use Rattle.theorems_requests.proofs.Runs.{RunsPackets, RunsPacketsC, kept_words, number_is, run_over_c, run_again}
 use Rattle.theorems_requests.proofs.Sections as sections
@@ -185,16 +185,18 @@ pub packets_of_rattle_are_those_over_c : {a t : Assembler} {b c : List ℕ} {ps 
 packets_of_rattle_are_those_over_c rest run = run_again rest run
 
 -- 71 to 75: a packet that `feed` refuses is answered by the refusal's number; so is one that its head refuses
-pub a_packet_over_c_is_refused_by_its_number : {a : Assembler} {rest p b : List ℕ} {r : Refusal} {later : List ℕ} {n : ℕ} {w c : List ℕ} → Feeds a p b (Err r) later → FeedsC (words_of a rest) p b n w c
-    → n ≡ refusal_number r
+pub a_packet_over_c_is_refused_by_its_number : {a left : Assembler} {rest p b : List ℕ} {r : Refusal} {later : List ℕ} {n : ℕ} {w c : List ℕ} → Feeds a p b (Err r, left) later
+    → FeedsC (words_of a rest) p b n w c → n ≡ refusal_number r
 unfolding fed_number
-a_packet_over_c_is_refused_by_its_number {r = r} d f = (feeds_c_so f).0 ∙ ap (λ (x : FedTo). fed_number x.answer) (sym (feeds_so {answer = Err r} d)) ∙ number_is r
+a_packet_over_c_is_refused_by_its_number {left = left} {r = r} d f =
+    (feeds_c_so f).0 ∙ ap (λ (x : FedTo). fed_number x.answer) (sym (feeds_so {left = (Err r, left)} d).0) ∙ number_is r
 
 pub a_packet_over_c_is_refused_with_71_to_74_by_its_head : {a : Assembler} {rest p b : List ℕ} {r : Refusal} {n : ℕ} {w c : List ℕ} → ReadsHead a.pid p (Err r) → FeedsC (words_of a rest) p b n w c
     → n ≡ refusal_number r
 unfolding fed_number
 a_packet_over_c_is_refused_with_71_to_74_by_its_head {a = a} {p = p} {b = b} {r = r} h f =
-    (feeds_c_so f).0 ∙ ap fed_number (rattle.a_packet_that_its_head_refuses_is_refused h (feed_is_met a p b)).0 ∙ number_is r
+    let e = sym (as_fed a (fed_of a p b).answer) ∙ ap fed_as (rattle.a_packet_that_its_head_refuses_is_refused h (feed_is_met a p b)).0 in
+    (feeds_c_so f).0 ∙ ap fed_number e ∙ number_is r
 
 -- "A refused packet changes no state": no word and no byte, however many words are lent
 pub a_refused_packet_over_c_changes_nothing : {words p b : List ℕ} {n : ℕ} {w c : List ℕ} → FeedsC words p b (suc n) w c → (w ≡ words) × (c ≡ b)

@@ -107,7 +107,7 @@ fresh_is_met pid = record { κ = tt; arguments = (pid, tt); answer = fresh_assem
 abbrev lent : Assembler → MutBor Assembler
 lent a = record { ref_ptr = (0, 0); ghost_name = 0; now = a }
 
-pub feed_is_met : (a : Assembler) (p b : List ℕ) → Feeds a p b (fed_of a p b).answer (fed_of a p b).buffer
+pub feed_is_met : (a : Assembler) (p b : List ℕ) → Feeds a p b (fed_answer (fed_of a p b).answer, fed_state a (fed_of a p b).answer) (fed_of a p b).buffer
 feed_is_met a p b = record {
   κ = ([], ([], ([], tt)));
   arguments = (lent a, (slice p, (target_of b, tt)));

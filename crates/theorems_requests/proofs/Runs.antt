@@ -9,7 +9,7 @@ use Rattle.std.specs.Prelude.{Option, Some, None, Result, Ok, Err}
 use Rattle.c_packet.specs.PacketWords.{state_in, kept_in, fed_number, kept_fed, taken_number, kept_taken}
 use Rattle.table.specs.Lent.{stored}
 use Rattle.transport.proofs.Answers.{from_nothing, from_long, from_part, from_complete, taken_nothing, taken_long, taken_part, taken_complete}
-use Rattle.transport.specs.Assembler.{at_rest, holding, FedTo, TakenTo, giving, taken_from, fed_of, taken_of}
+use Rattle.transport.specs.Assembler.{at_rest, holding, FedTo, TakenTo, giving, taken_from, fed_answer, fed_state, fed_of, taken_of}
 use Rattle.transport.specs.Step.{State, Told, step_of}
 use Rattle.transport.specs.Step.Told.{took}
 use Rattle.transport.specs.declared.Assembler.{Assembler}
@@ -87,10 +87,12 @@ drained_ends (more d rest) = next_take d refl (drained_ends rest)
 
 refused_step : {a t : Assembler} {p b c : List ℕ} {n k : ℕ} → FeedsTo Feeds a p b n t c → n ≡ suc k → (r : Refusal) × CodeStep a p b (Told.refused r) t c × (n ≡ refusal_number r)
 refused_step (goes_in d e) z = absurd (omega (arith, e, z))
-refused_step (is_refused {r = r} d e) z = (r, code.CodeStep.refuses (sym (feeds_so d)), e)
+refused_step (is_refused {a = a} {later = later} {p = p} {b = b} {c = c} {r = r} d e) z =
+    let s = feeds_so {left = (Err r, later)} d in
+    (r, subst (λ (t : Assembler). CodeStep a p b (Told.refused r) t c) (sym s.1) (code.CodeStep.refuses (sym s.0)), e)
 
 taken_step : {a t u : Assembler} {p b c d : List ℕ} {n : ℕ} {ss : List (List ℕ)} → FeedsTo Feeds a p b n t c → n ≡ 0 → Drains t p c ss u d → CodeStep a p b (took (state_of u d) ss) u d
-taken_step (goes_in f e) z rest = code.CodeStep.takes (sym (feeds_so f)) (drained_ends rest)
+taken_step (goes_in {later = later} f e) z rest = code.CodeStep.takes (sym (feeds_so {left = (Ok tt, later)} f).0) (drained_ends rest)
 taken_step (is_refused {r = r} f e) z rest = absurd (refusal_some r (sym e ∙ z))
 
 module _ (pid : ℕ) (s : State) (p : List ℕ) (ps : List (List ℕ)) (x : Told) (e : x ≡ step_of pid s p) where
@@ -145,7 +147,8 @@ none_refused (accepts {p = p} f rest later) z = ap (λ (l : List (List ℕ)). p 
 
 -- ---- there is such a run, from any state
 
-feeds_if : (a : Assembler) (p b : List ℕ) (k : Result Assembler Refusal) (c : List ℕ) → (fed_of a p b).answer ≡ k → c ≡ (fed_of a p b).buffer → Feeds a p b k c
+feeds_if : (a : Assembler) (p b : List ℕ) (k : Result Assembler Refusal) (c : List ℕ) → (fed_of a p b).answer ≡ k → c ≡ (fed_of a p b).buffer
+    → Feeds a p b (fed_answer k, fed_state a k) c
 feeds_if a p b k c e l = rw (← e, l) (feed_is_met a p b)
 
 takes_if : (a : Assembler) (p b : List ℕ) (k : Option ℕ × Assembler) (c : List ℕ) → (taken_of a p b).answer ≡ k → c ≡ (taken_of a p b).buffer → Takes a p b k c
@@ -273,13 +276,14 @@ module _ (rest : List ℕ) where
   feeds_again : {a t : Assembler} {p b c : List ℕ} {n : ℕ} → FeedsTo Feeds a p b n t c → FeedsC (words_of a rest) p b n (words_of t rest) c
   unfolding fed_number kept_fed
   feeds_again (goes_in {a = a} {later = later} {p = p} {b = b} {c = c} {n = n} d e) =
-      let q = feeds_so {answer = Ok later} d in
+      let q = (feeds_so {left = (Ok tt, later)} d).0 in
       feeds_c_if (words_of a rest) p b n (words_of later rest) c (e ∙ ap (λ (x : FedTo). fed_number x.answer) q)
       (sym (kept_words a later rest) ∙ ap (λ (x : FedTo). kept_fed (words_of a rest) x.answer) q) (ap (λ (x : FedTo). x.buffer) q)
-  feeds_again (is_refused {a = a} {p = p} {b = b} {c = c} {n = n} {r = r} d e) =
-      let q = feeds_so {answer = Err r} d in
-      feeds_c_if (words_of a rest) p b n (words_of a rest) c (e ∙ sym (number_is r) ∙ ap (λ (x : FedTo). fed_number x.answer) q)
-      (ap (λ (x : FedTo). kept_fed (words_of a rest) x.answer) q) (ap (λ (x : FedTo). x.buffer) q)
+  feeds_again (is_refused {a = a} {later = later} {p = p} {b = b} {c = c} {n = n} {r = r} d e) =
+      let s = feeds_so {left = (Err r, later)} d in
+      let q = s.0 in
+      feeds_c_if (words_of a rest) p b n (words_of later rest) c (e ∙ sym (number_is r) ∙ ap (λ (x : FedTo). fed_number x.answer) q)
+      (ap (λ (t : Assembler). words_of t rest) s.1 ∙ ap (λ (x : FedTo). kept_fed (words_of a rest) x.answer) q) (ap (λ (x : FedTo). x.buffer) q)
 
   takes_again : {a t : Assembler} {p b c : List ℕ} {n : ℕ} → TakesTo Takes a p b n t c → TakesC (words_of a rest) p b n (words_of t rest) c
   unfolding taken_number kept_taken

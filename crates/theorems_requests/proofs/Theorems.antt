@@ -3,10 +3,10 @@
 -- (`Adjusts` and the like are in Contracts.antt.)
 use Prim.Native.Nat.{ℕ, ◌+◌, ◌%◌, ◌≤◌}
 use mathlib.Core.List.{List, [], ◌++◌}
-use mathlib.Core.Path.{◌≡◌, refl, ap, sym, subst, ◌∙◌}
+use mathlib.Core.Path.{◌≡◌, refl, ap, ap₂, sym, subst, ◌∙◌}
 use native.Mathlib.Omega.{arith}
 use lib.ListN.{length, take, drop}
-use Rattle.std.specs.Prelude.{Result, Err}
+use Rattle.std.specs.Prelude.{Result, Ok, Err}
 use Rattle.adjust.proofs.Laws.{adjust_is, adjust_wide, adjust_late, chain_is, chain_first, chain_second, undo_wide}
 use Rattle.adjust.proofs.Theorems as adjusting
 use Rattle.adjust.specs.Adjust.{adjust_of}
@@ -26,7 +26,7 @@ use Rattle.theorems_functions.proofs.Writes.{puts}
 use Rattle.theorems_functions.specs.Calls.{Puts}
 use Rattle.theorems_writer.proofs.Theorems as writing
 use Rattle.transport.proofs.Answers.{fed_refused}
-use Rattle.transport.specs.Assembler.{FedTo, fresh_assembler}
+use Rattle.transport.specs.Assembler.{FedTo, fresh_assembler, fed_state}
 use Rattle.transport.specs.Step.{fresh}
 use Rattle.transport.specs.Step.Settled.{none}
 use Rattle.transport.specs.declared.Assembler.{Assembler}
@@ -44,7 +44,7 @@ use Rattle.theorems_requests.specs.Adjustments.Single.{all, next}
 use Rattle.theorems_requests.specs.Packets.{HeadSays, unrefused_of, step_numbers, Zeros}
 use Rattle.theorems_requests.specs.Sections.{adjust_answered, AdjustedTo}
 use Rattle.theorems_requests.proofs.Adjustments as adjustments
-use Rattle.theorems_requests.proofs.Contracts.{Adjusts, adjusts_so, AdjustsUnder, adjusts_under_so, Chains, chains_so, Undoes, undoes_so, AdjustsSection, adjusts_section_so, ReadsHead, reads_head_so, Starts, starts_so, Feeds, feeds_so}
+use Rattle.theorems_requests.proofs.Contracts.{fed_as, Adjusts, adjusts_so, AdjustsUnder, adjusts_under_so, Chains, chains_so, Undoes, undoes_so, AdjustsSection, adjusts_section_so, ReadsHead, reads_head_so, Starts, starts_so, Feeds, feeds_so}
 use Rattle.theorems_requests.proofs.Heads.{head_is}
 use Rattle.theorems_requests.proofs.Premises.{adjust_is_met}
 use Rattle.theorems_requests.proofs.Runs.{RunsPackets, run_code, none_refused}
@@ -179,16 +179,24 @@ pub read_head_goes_by_the_packets_bytes : {pid : ℕ} {p : List ℕ} {h : Head} 
 read_head_goes_by_the_packets_bytes {pid = pid} {p = p} d = rw (reads_head_so d) (head_is pid p)
 
 -- what its head refuses is refused with that, whatever the state and the buffer
-pub a_packet_that_its_head_refuses_is_refused : {a : Assembler} {p b : List ℕ} {r : Refusal} {answer : Result Assembler Refusal} {later : List ℕ} → ReadsHead a.pid p (Err r) → Feeds a p b answer later
-    → (answer ≡ Err r) × (later ≡ b)
-a_packet_that_its_head_refuses_is_refused {a = a} {p = p} {b = b} {r = r} h d =
-    let e = feeds_so d ∙ fed_refused a p b r (sym (reads_head_so h)) in
-    (ap (λ (x : FedTo). x.answer) e, ap (λ (x : FedTo). x.buffer) e)
+pub a_packet_that_its_head_refuses_is_refused : {a : Assembler} {p b : List ℕ} {r : Refusal} {left : Result (Unit {0}) Refusal × Assembler} {later : List ℕ} → ReadsHead a.pid p (Err r)
+    → Feeds a p b left later → (left ≡ (Err r, a)) × (later ≡ b)
+a_packet_that_its_head_refuses_is_refused {a = a} {p = p} {b = b} {r = r} {left = left} h d =
+    let e = (feeds_so d).0 ∙ fed_refused a p b r (sym (reads_head_so h)) in
+    (go left (ap (λ (x : FedTo). x.answer) e) (feeds_so d).1, ap (λ (x : FedTo). x.buffer) e)
+  where
+    go : (x : Result (Unit {0}) Refusal × Assembler) → fed_as x ≡ Err r → x.1 ≡ fed_state a (fed_as x) → x ≡ (Err r, a)
+    go (Ok u, later) e f = cc
+    go (Err q, later) e f = let z : q ≡ r = cc in ap₂ (λ (y : Refusal) (t : Assembler). (Err y, t)) z f
 
 -- "A refused packet changes no state", and no byte of the buffer
-pub a_refused_packet_changes_no_byte : {a : Assembler} {p b : List ℕ} {r : Refusal} {later : List ℕ} → Feeds a p b (Err r) later → later ≡ b
-a_refused_packet_changes_no_byte {a = a} {p = p} {b = b} {r = r} d =
-    ap (λ (x : FedTo). x.buffer) (feeds_so {answer = Err r} d) ∙ packets.refused_keeps a p b r (sym (ap (λ (x : FedTo). x.answer) (feeds_so {answer = Err r} d)))
+pub a_refused_packet_changes_no_byte : {a left : Assembler} {p b : List ℕ} {r : Refusal} {later : List ℕ} → Feeds a p b (Err r, left) later → later ≡ b
+a_refused_packet_changes_no_byte {a = a} {left = left} {p = p} {b = b} {r = r} d =
+    let e = (feeds_so {left = (Err r, left)} d).0 in
+    ap (λ (x : FedTo). x.buffer) e ∙ packets.refused_keeps a p b r (sym (ap (λ (x : FedTo). x.answer) e))
+
+pub a_refused_packet_changes_no_state : {a left : Assembler} {p b : List ℕ} {r : Refusal} {later : List ℕ} → Feeds a p b (Err r, left) later → left ≡ a
+a_refused_packet_changes_no_state {left = left} {r = r} d = (feeds_so {left = (Err r, left)} d).1
 
 -- From `fresh` on, with the buffer that was asked for, of any packets: `feed` for each, and `take` until it is done (`RunsPackets`, over specs/Packets.antt).
 module _ {pid : ℕ} {a t : Assembler} {b d : List ℕ} {ps : List (List ℕ)} {ns : List ℕ} {ss : List (List ℕ)} (start : Starts pid a) (room : 4096 ≤ length b) (run : RunsPackets a b ps ns ss t d) where

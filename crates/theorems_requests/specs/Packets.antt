@@ -54,10 +54,10 @@ refusal_number Scrambled = 73
 refusal_number PayloadOutside = 74
 refusal_number SectionLengthTooLarge = 75
 
--- a packet fed: 0 and the state behind it, or the refusal's number, and the state stays
-pub data FeedsTo (Feeds : Assembler → List ℕ → List ℕ → Result Assembler Refusal → List ℕ → Type 0) : Assembler → List ℕ → List ℕ → ℕ → Assembler → List ℕ → Type 0 where
-  goes_in : {a later : Assembler} {p b c : List ℕ} {n : ℕ} → Feeds a p b (Ok later) c → n ≡ 0 → FeedsTo Feeds a p b n later c
-  is_refused : {a : Assembler} {p b c : List ℕ} {n : ℕ} {r : Refusal} → Feeds a p b (Err r) c → n ≡ refusal_number r → FeedsTo Feeds a p b n a c
+-- a packet fed: 0 or the refusal's number, and the state behind it
+pub data FeedsTo (Feeds : Assembler → List ℕ → List ℕ → Result (Unit {0}) Refusal × Assembler → List ℕ → Type 0) : Assembler → List ℕ → List ℕ → ℕ → Assembler → List ℕ → Type 0 where
+  goes_in : {a later : Assembler} {p b c : List ℕ} {n : ℕ} → Feeds a p b (Ok tt, later) c → n ≡ 0 → FeedsTo Feeds a p b n later c
+  is_refused : {a later : Assembler} {p b c : List ℕ} {n : ℕ} {r : Refusal} → Feeds a p b (Err r, later) c → n ≡ refusal_number r → FeedsTo Feeds a p b n later c
 
 -- a section taken: its length, or 0 where nothing is left of the packet
 pub data TakesTo (Takes : Assembler → List ℕ → List ℕ → Option ℕ × Assembler → List ℕ → Type 0) : Assembler → List ℕ → List ℕ → ℕ → Assembler → List ℕ → Type 0 where

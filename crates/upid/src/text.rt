@@ -56,11 +56,17 @@ fn next(t: Stand, b: u8) -> Stand
     }
 }
 
-// How many bytes of ASCII come first: each is a character, and most text is nothing else.
+// How many bytes of ASCII come first: each is a character, and most text is nothing else. (By `position` `check_payload`, in which this lands, would keep
+// two words more at each of a MID's levels, and scte35_read_segmentation_components more stack than the C header says.)
 fn ascii(s: &[u8]) -> usize
     ensures { (result ≤ length s.now) × (foldl step (wants []) s.now ≡ foldl step (wants []) (drop result s.now)) }
 {
-    s.iter().position(|&b| 0x7F < b).unwrap_or(s.len())
+    for i in 0..s.len() {
+        if 0x7F < s[i] {
+            return i;
+        }
+    }
+    s.len()
 }
 
 // Whether the bytes are UTF-8.
