@@ -1,3 +1,4 @@
 pub mod Runs
 pub mod Completes
+pub mod Places
 pub mod Lists

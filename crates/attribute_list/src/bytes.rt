@@ -27,12 +27,14 @@ impl Class for Name {
 
     #[tactic(auto, unfolding(crate::specs::Grammar::name_byte))]
     fn has(b: u8) -> bool {
-        // Letters by two tests: one `matches!` makes all five of each byte.
+        // Letters by two tests, figures by three: one `matches!` makes all five of each byte.
         if b'A' <= b {
-            b <= b'Z'
-        } else {
-            matches!(b, b'0'..=b'9' | b'-')
+            return b <= b'Z';
         }
+        if b'0' <= b {
+            return b <= b'9';
+        }
+        b == b'-'
     }
 }
 
@@ -65,18 +67,20 @@ pub fn run<C: Class>(bytes: &[u8]) -> usize
     bytes.iter().take_while(|b| C::has(**b)).count()
 }
 
-// What stands from a place on: nothing where it lies past the end.
-pub(crate) fn from(text: &[u8], at: usize) -> &[u8]
-    ensures { result.now ≡ drop at text.now }
-{
-    text.get(at..).unwrap_or(&[])
-}
-
-// Where the run of such bytes ends that begins at a place.
+// Where the run of such bytes ends that begins at a place. By the line's places, of which none lies behind the line's end once that is tested: where the
+// count begins at the place, as in `run`, the compiler makes more of it (a line's attributes are cut anew for each; docs/DESIGN-PASS.md, "Speed").
 pub fn past<C: Class>(line: &[u8], at: usize) -> usize
     ensures { result ≡ at + prefix_len C.test (drop at line.now) }
 {
-    at + run::<C>(from(line, at))
+    if line.len() <= at {
+        return at;
+    }
+    for i in at..line.len() {
+        if !C::has(line[i]) {
+            return i;
+        }
+    }
+    line.len()
 }
 
 // Whether two runs are the same bytes.

@@ -1,8 +1,8 @@
-// The attribute at a place of a line.
-ghost use Rattle.std.specs.Prelude.{◌≡◌, ◌+◌, ◌≤◌, IfSome, drop, get_or, length};
+// The attribute at a place of a line. Each test has its `return`: of tests that are joined the compiler makes all, of each attribute.
+ghost use Rattle.std.specs.Prelude.{◌≡◌, ◌+◌, ◌<◌, ◌≤◌, IfSome, drop, eqb, get_or, length};
 ghost use Rattle.attribute_list.specs.Cutting.{closed, quoted_of, plain_of, cut_of, end_of};
 
-use crate::bytes::{Name, Plain, Quoted, from, run};
+use crate::bytes::{Name, Plain, Quoted, past};
 
 // The lengths of an attribute's name and value, and whether the value is quoted.
 #[derive(Clone, Copy)]
@@ -12,70 +12,73 @@ pub struct Cut {
     pub value: usize,
 }
 
-// The byte at a place, 0 past the end.
-fn byte_at(text: &[u8], at: usize) -> u8
-    ensures { result ≡ get_or text.now at 0 }
+// Whether this byte stands at a place.
+fn stands_at(line: &[u8], at: usize, byte: u8) -> bool
+    requires { 0 < byte }
+    ensures { result ≡ eqb (get_or line.now at 0) byte }
 {
-    *text.get(at).unwrap_or(&0)
+    matches!(line.get(at), Some(b) if *b == byte)
 }
 
 // Whether nothing or a comma stands at a place.
-fn is_closed(text: &[u8], at: usize) -> bool
-    ensures { result ≡ closed (drop at text.now) }
+fn is_closed(line: &[u8], at: usize) -> bool
+    ensures { result ≡ closed (drop at line.now) }
 {
-    matches!(text.get(at), None | Some(b','))
+    matches!(line.get(at), None | Some(b','))
 }
 
 // A value behind its opening quote.
-fn quoted(text: &[u8], name: usize) -> Option<Cut>
-    ensures { result ≡ quoted_of name text.now }
+fn quoted(line: &[u8], at: usize, name: usize) -> Option<Cut>
+    ensures { result ≡ quoted_of name (drop at line.now) }
 {
-    let value = run::<Quoted>(text);
-    if byte_at(text, value) != b'"' || !is_closed(text, value + 1) {
+    let end = past::<Quoted>(line, at);
+    if !stands_at(line, end, b'"') {
+        return None;
+    }
+    if !is_closed(line, end + 1) {
         return None;
     }
     Some(Cut {
         name,
         quoted: true,
-        value,
+        value: end - at,
     })
 }
 
-fn plain(text: &[u8], name: usize) -> Option<Cut>
-    ensures { result ≡ plain_of name text.now }
+fn plain(line: &[u8], at: usize, name: usize) -> Option<Cut>
+    ensures { result ≡ plain_of name (drop at line.now) }
 {
-    let value = run::<Plain>(text);
-    if value == 0 || !is_closed(text, value) {
+    let end = past::<Plain>(line, at);
+    if end <= at {
+        return None;
+    }
+    if !is_closed(line, end) {
         return None;
     }
     Some(Cut {
         name,
         quoted: false,
-        value,
+        value: end - at,
     })
 }
 
-// The attribute that a text begins with.
-#[tactic(auto, unfolding(crate::specs::Cutting::cut_of))]
-fn cut_off(text: &[u8]) -> Option<Cut>
-    ensures { result ≡ cut_of text.now }
-{
-    let name = run::<Name>(text);
-    if name == 0 || byte_at(text, name) != b'=' {
-        return None;
-    }
-    let value = &text[name + 1..];
-    if byte_at(value, 0) == b'"' {
-        quoted(&value[1..], name)
-    } else {
-        plain(value, name)
-    }
-}
-
 // The attribute at a place; nothing where none stands there, or something else than a comma behind it.
+#[tactic(auto, unfolding(crate::specs::Cutting::cut_of))]
 pub fn cut_at(line: &[u8], at: usize) -> Option<Cut>
     ensures cut { result ≡ cut_of (drop at line.now) }
     ensures within { IfSome result (λ c. at + end_of c.name c.quoted c.value ≤ length line.now) }
 {
-    cut_off(from(line, at))
+    let equals = past::<Name>(line, at);
+    if equals <= at {
+        return None;
+    }
+    if !stands_at(line, equals, b'=') {
+        return None;
+    }
+    let name = equals - at;
+    let value = equals + 1;
+    if stands_at(line, value, b'"') {
+        return quoted(line, value + 1, name);
+    }
+    plain(line, value, name)
 }

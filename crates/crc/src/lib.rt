@@ -56,7 +56,9 @@ fn take_word(y: u32) -> u32
     high ^ low
 }
 
-// The CRC of a message: words of four bytes, and then the bytes that are left.
+// The CRC of a message: words of four bytes, and then the bytes that are left. Never in place of its call: so the functions around it, of which reading a
+// section's frame is one, stay small enough to be (docs/DESIGN-PASS.md, "Speed").
+#[inline(never)]
 pub fn crc32(s: &[u8]) -> u32
     ensures { result ≡ crc_of s.now }
 {

@@ -19,8 +19,7 @@ pub(crate) fn size(cut: Cut) -> usize
     requires { end_of cut.name cut.quoted cut.value < 2 ^ 63 }
     ensures { result ≡ end_of cut.name cut.quoted cut.value }
 {
-    let end = value_from(cut) + cut.value;
-    if cut.quoted { end + 1 } else { end }
+    cut.name + cut.value + if cut.quoted { 3 } else { 1 }
 }
 
 // Whether an attribute before the one at `place` has its name. No line has more attributes than bytes.
