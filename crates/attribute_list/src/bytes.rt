@@ -67,20 +67,17 @@ pub fn run<C: Class>(bytes: &[u8]) -> usize
     bytes.iter().take_while(|b| C::has(**b)).count()
 }
 
-// Where the run of such bytes ends that begins at a place. By the line's places, of which none lies behind the line's end once that is tested: where the
-// count begins at the place, as in `run`, the compiler makes more of it (a line's attributes are cut anew for each; docs/DESIGN-PASS.md, "Speed").
+// Where the run of such bytes ends that begins at a place. By the line's places: where `run` counts from the place on, the compiler makes more of it (a
+// line's attributes are cut anew for each of them; docs/DESIGN-PASS.md, "Speed").
 pub fn past<C: Class>(line: &[u8], at: usize) -> usize
     ensures { result ≡ at + prefix_len C.test (drop at line.now) }
 {
-    if line.len() <= at {
-        return at;
-    }
     for i in at..line.len() {
         if !C::has(line[i]) {
             return i;
         }
     }
-    line.len()
+    at.max(line.len())
 }
 
 // Whether two runs are the same bytes.
